@@ -1,0 +1,107 @@
+-- Laws of `put` and `upto`: what a run of calls, or a loop, has written. Assumes nothing.
+use mathlib.Core.Path.{_≡_, refl, sym, ap, _∙_}
+use mathlib.Core.List.{List, [], _∷_, _++_, append-assoc, append-nil}
+use Prim.Native.Nat.{ℕ, zero, suc, _+_, _*_, _≤_, _<_}
+use native.Mathlib.Nat.{add-zero, add-suc, suc-add, zero-add, not-suc-le-zero}
+use native.Mathlib.Numerals.{add-one}
+use native.Mathlib.Omega.{arith}
+use lib.ListN.{length, take, drop, set, getD, length-append, length-set}
+use lib.Seq.{sets, sets-eq, getD-set-other, getD-set-same}
+use Rattle.buffers.specs.Put.{put, upto}
+
+module _ {ℓ} {A : Type ℓ} where
+  pub length-put : (l : List A) (i : ℕ) (xs : List A) → length (put l i xs) ≡ length l
+  unfolding put
+  length-put l i [] = refl
+  length-put l i (x ∷ xs) = length-put (set l i x) (suc i) xs ∙ length-set l i x
+
+  -- two writes one after the other are one
+  pub put-put : (l : List A) (i : ℕ) (xs ys : List A) → put (put l i xs) (i + length xs) ys ≡ put l i (xs ++ ys)
+  unfolding put
+  put-put l i [] ys = ap (λ (k : ℕ). put l k ys) (add-zero i)
+  put-put l i (x ∷ xs) ys =
+      ap (λ (k : ℕ). put (put (set l i x) (suc i) xs) k ys) (add-suc i (length xs) ∙ sym (suc-add i (length xs)))
+      ∙ put-put (set l i x) (suc i) xs ys
+
+  -- the second write's offset known by an equation
+  pub put-at : (l : List A) (i j : ℕ) (xs ys : List A) → j ≡ i + length xs → put (put l i xs) j ys ≡ put l i (xs ++ ys)
+  put-at l i j xs ys e = ap (λ (k : ℕ). put (put l i xs) k ys) e ∙ put-put l i xs ys
+
+  -- each piece w long
+  pub length-upto : (f : ℕ → List A) (w n : ℕ) → ((k : ℕ) → k < n → length (f k) ≡ w) → length (upto f n) ≡ n * w
+  unfolding upto
+  length-upto f w zero h = omega arith
+  length-upto f w (suc n) h = simp (length-append, length-upto f w n (λ k b. h k (omega arith)), h n (omega arith)) (omega arith)
+
+  -- a turn of a loop that writes piece after piece
+  pub put-turn : (f : ℕ → List A) (l : List A) (i j k : ℕ) {b : List A} → b ≡ put l i (upto f k) → j ≡ i + length (upto f k)
+      → put b j (f k) ≡ put l i (upto f (k + 1))
+  unfolding upto
+  put-turn f l i j k {b} e h = ap (λ (m : List A). put m j (f k)) e ∙ put-at l i j (upto f k) (f k) h ∙ ap (λ (n : ℕ). put l i (upto f n)) (sym (add-one k))
+
+  -- the same where a piece is one element
+  pub length-each : (f : ℕ → A) (n : ℕ) → length (upto (λ (k : ℕ). f k ∷ []) n) ≡ n
+  unfolding upto
+  length-each f zero = refl
+  length-each f (suc n) = simp (length-append, length-each f n) (omega arith)
+
+  pub set-turn : (f : ℕ → A) (l : List A) (i j k : ℕ) {b : List A} {v : A} → b ≡ put l i (upto (λ (k : ℕ). f k ∷ []) k) → v ≡ f k → j ≡ i + k
+      → set b j v ≡ put l i (upto (λ (k : ℕ). f k ∷ []) (k + 1))
+  unfolding put
+  set-turn f l i j k {b} {v} e ev h =
+      ap (set b j) ev ∙ put-turn (λ (k : ℕ). f k ∷ []) l i j k e (simp length-each h)
+
+  pub put1 : (l : List A) (j : ℕ) (x : A) → set l j x ≡ put l j (x ∷ [])
+  unfolding put
+  put1 l j x = refl
+
+  -- three stores in a row are one write
+  pub put3 : (l : List A) (j : ℕ) (x y z : A) → set (set (set l j x) (j + 1) y) (j + 2) z ≡ put l j (x ∷ y ∷ z ∷ [])
+  unfolding put
+  put3 l j x y z = ap (λ (k : ℕ). set (set (set l j x) k y) (j + 2) z) (add-one j) ∙ ap (λ (k : ℕ). set (set (set l j x) (suc j) y) k z) (omega arith)
+
+  -- THE law of a loop: pieces of one width w, b holds the first k, and b′ is b with piece k written at its place j
+  pub turn : (f : ℕ → List A) (w : ℕ) → ((k : ℕ) → length (f k) ≡ w) → (l : List A) (i j k : ℕ) {b b′ : List A}
+      → b′ ≡ put b j (f k) → b ≡ put l i (upto f k) → j ≡ i + k * w → b′ ≡ put l i (upto f (k + 1))
+  turn f w hw l i j k {b} e′ e h =
+      e′ ∙ put-turn f l i j k e (h ∙ ap (λ (n : ℕ). i + n) (sym (length-upto f w k (λ n _. hw n))))
+
+  -- the length of what a loop has written so far is the length that the buffer had
+  pub kept : (l : List A) (i : ℕ) (xs : List A) {b : List A} → b ≡ put l i xs → length b ≡ length l
+  kept l i xs e = ap length e ∙ length-put l i xs
+
+  -- THE law of a sequence: one write after another
+  pub next : (l b : List A) (i j : ℕ) (xs ys : List A) {b′ : List A}
+      → b′ ≡ put b j ys → b ≡ put l i xs → j ≡ i + length xs → b′ ≡ put l i (xs ++ ys)
+  next l b i j xs ys e′ e h = e′ ∙ ap (λ (m : List A). put m j ys) e ∙ put-at l i j xs ys h
+
+  -- what stands past the written part, and before it, is as it was
+  pub getD-put-past : (l : List A) (i : ℕ) (xs : List A) (k : ℕ) (d : A) → i + length xs ≤ k → getD (put l i xs) k d ≡ getD l k d
+  unfolding put
+  getD-put-past l i [] k d h = refl
+  getD-put-past l i (x ∷ xs) k d h = getD-put-past (set l i x) (suc i) xs k d (omega arith) ∙ getD-set-other l i k x d (omega arith)
+
+  pub getD-put-before : (l : List A) (i : ℕ) (xs : List A) (k : ℕ) (d : A) → k < i → getD (put l i xs) k d ≡ getD l k d
+  unfolding put
+  getD-put-before l i [] k d h = refl
+  getD-put-before l i (x ∷ xs) k d h = getD-put-before (set l i x) (suc i) xs k d (omega arith) ∙ getD-set-other l i k x d (omega arith)
+
+  -- what was written is there
+  pub getD-put-in : (l : List A) (i : ℕ) (xs : List A) (k : ℕ) (d : A) → k < length xs → i + length xs ≤ length l
+      → getD (put l i xs) (i + k) d ≡ getD xs k d
+  unfolding put
+  getD-put-in l i [] k d h b = absurd (not-suc-le-zero h)
+  getD-put-in l i (x ∷ xs) zero d h b =
+      getD-put-before (set l i x) (suc i) xs (i + 0) d (omega arith) ∙ ap (λ (n : ℕ). getD (set l i x) n d) (add-zero i) ∙ getD-set-same l i x d (omega arith)
+  getD-put-in l i (x ∷ xs) (suc k) d h b =
+      ap (λ (n : ℕ). getD (put (set l i x) (suc i) xs) n d) (add-suc i k ∙ sym (suc-add i k))
+      ∙ getD-put-in (set l i x) (suc i) xs k d (omega arith) (simp length-set (omega arith))
+
+  -- the meaning in one line, where there is room
+  put-sets : (l : List A) (i : ℕ) (xs : List A) → put l i xs ≡ sets l i xs
+  unfolding put
+  put-sets l i [] = refl
+  put-sets l i (x ∷ xs) = put-sets (set l i x) (suc i) xs
+
+  pub put-eq : (l : List A) (i : ℕ) (xs : List A) → i + length xs ≤ length l → put l i xs ≡ take i l ++ xs ++ drop (i + length xs) l
+  put-eq l i xs h = put-sets l i xs ∙ sets-eq xs l i h
