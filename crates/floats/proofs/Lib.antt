@@ -1,0 +1,11 @@
+pub mod Grid
+pub mod Closest
+pub mod Fields
+pub mod Narrows
+pub mod Squares
+pub mod Roots
+pub mod RootBits
+pub mod Written
+pub mod NearestRoot
+pub mod Signs
+pub mod Cases

@@ -1,0 +1,73 @@
+-- Vectors of three f32. Each operation is one of IEEE 754's, at binary32, in the order written.
+use mathlib.Core.Bool.{Bool, true, false, cond}
+use mathlib.Core.List.{List, [], _∷_}
+use Prim.Native.Nat.{ℕ, _+_, _*_}
+use lib.ListN.{getD}
+use lib.Ieee.{Float, nan, binary32, ofBits, add, sub, mul, div, eq, neg}
+use Rattle.floats.specs.Floats.{root}
+use Rattle.vectors.specs.declared.Vec3.{Vec3}
+
+abbrev pub f+ : Float → Float → Float
+f+ a b = add binary32 a b
+
+abbrev pub f- : Float → Float → Float
+f- a b = sub binary32 a b
+
+abbrev pub f* : Float → Float → Float
+f* a b = mul binary32 a b
+
+abbrev pub f/ : Float → Float → Float
+f/ a b = div binary32 a b
+
+-- a literal, by its bits
+abbrev pub lit : ℕ → Float
+lit b = ofBits binary32 b
+
+abbrev pub one : Float
+one = lit 0x3f800000
+
+abbrev pub vec : Float → Float → Float → Vec3
+vec x y z = record { x = x; y = y; z = z }
+
+abbrev pub vzero : Vec3
+vzero = vec (lit 0) (lit 0) (lit 0)
+
+-- what lies past the end of an array of vectors
+abbrev pub vpast : Vec3
+vpast = vec nan nan nan
+
+unfoldable pub vadd : Vec3 → Vec3 → Vec3
+vadd a b = vec (f+ (a .x) (b .x)) (f+ (a .y) (b .y)) (f+ (a .z) (b .z))
+
+unfoldable pub vsub : Vec3 → Vec3 → Vec3
+vsub a b = vec (f- (a .x) (b .x)) (f- (a .y) (b .y)) (f- (a .z) (b .z))
+
+unfoldable pub vscale : Vec3 → Float → Vec3
+vscale a k = vec (f* (a .x) k) (f* (a .y) k) (f* (a .z) k)
+
+unfoldable pub vdot : Vec3 → Vec3 → Float
+vdot a b = f+ (f+ (f* (a .x) (b .x)) (f* (a .y) (b .y))) (f* (a .z) (b .z))
+
+unfoldable pub vcross : Vec3 → Vec3 → Vec3
+vcross a b =
+    vec (f- (f* (a .y) (b .z)) (f* (a .z) (b .y)))
+    (f- (f* (a .z) (b .x)) (f* (a .x) (b .z)))
+    (f- (f* (a .x) (b .y)) (f* (a .y) (b .x)))
+
+-- the root of (xx + yy) + zz
+unfoldable pub vlength : Vec3 → Float
+vlength a = root binary32 (vdot a a)
+
+-- the components times 1 / length; length 0 gives the zero vector
+abbrev pub normalisedBy : Vec3 → Float → Vec3
+normalisedBy a l = cond (eq l (lit 0)) vzero (vscale a (f/ one l))
+
+unfoldable pub normalised : Vec3 → Vec3
+normalised a = normalisedBy a (vlength a)
+
+-- the three floats of a vector, and vector i of a flat list
+abbrev pub floats : Vec3 → List Float
+floats v = v .x ∷ v .y ∷ v .z ∷ []
+
+unfoldable pub vecAt : List Float → ℕ → Vec3
+vecAt l i = vec (getD l (3 * i) nan) (getD l (3 * i + 1) nan) (getD l (3 * i + 2) nan)
