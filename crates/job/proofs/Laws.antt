@@ -1,0 +1,100 @@
+-- Laws of `first` and `last`, for loops that count up. Assumes nothing.
+use Prim.Native.Nat.{ℕ, zero, suc, _+_, _-_, _<_, _≤_}
+use mathlib.Core.Bool.{Bool, true, false, cond, not, _||_}
+use mathlib.Core.Path.{_≡_, refl, sym, ap, _∙_, subst}
+use mathlib.Core.Logic.{⊎-elim}
+use native.Mathlib.Nat.{eq-or-lt-of-le, le-of-suc-le-suc}
+use native.Mathlib.Numerals.{add-one}
+use native.Mathlib.Omega.{arith}
+use Rattle.job.specs.declared.Refusal.{Refusal}
+use Rattle.job.specs.declared.Refusal.the-variants.{BadLength, BadVersion, BadCounts, BadSize, BadVisibility, BadKind, BadAtom, BadCoordinate}
+use lib.Dec.{ltb, leb, eqb}
+use lib.ListN.{length}
+use Rattle.job.specs.Bytes.{u8At, u16At, u32At}
+use Rattle.job.specs.declared.Checked.{Checked}
+use Rattle.job.specs.declared.Checked.the-variants.{Fine, Refused}
+use Rattle.job.specs.declared.Head.{Head}
+use Rattle.job.specs.Layout.{Whole, headOf, sizeOf}
+use borrow.Author.Tests.{eqb-true, ltb-false, not-false}
+use mathlib.Core.List.{List}
+use Rattle.job.specs.Check.{orFirst, sizes, contents, check, andThen, badVisibility, badKind, badAtom, badCoordinate}
+use Rattle.job.specs.Search.{orElse, first, last}
+
+-- no index below n is taken
+pub first-none : (t : ℕ → Bool) (n : ℕ) → ((k : ℕ) → k < n → t k ≡ false) → first t n ≡ 0
+unfolding first
+first-none t zero h = refl
+first-none t (suc n) h = rw (first-none t n (λ k l. h k (omega arith)), h n (omega arith))
+
+first-suc : (t : ℕ → Bool) (n i : ℕ) → i < n → ((k : ℕ) → k < i → t k ≡ false) → t i ≡ true → first t n ≡ suc i
+unfolding first
+first-suc t zero i l h e = absurd (omega arith)
+first-suc t (suc n) i l h e =
+    ⊎-elim
+    (λ q. subst (λ (k : ℕ). orElse (first t n) (cond (t n) (suc n) zero) ≡ suc k) (sym q)
+    (rw (first-none t n (λ k m. h k (omega arith)), subst (λ (k : ℕ). t k ≡ true) q e)))
+    (λ m. rw (first-suc t n i m h e))
+    (eq-or-lt-of-le (le-of-suc-le-suc l))
+
+-- i is the first that is taken
+pub first-at : (t : ℕ → Bool) (n i : ℕ) → i < n → ((k : ℕ) → k < i → t k ≡ false) → t i ≡ true → first t n ≡ i + 1
+first-at t n i l h e = first-suc t n i l h e ∙ sym (add-one i)
+
+-- a search's answer in the ladder of checks
+pub orFirst-pos : (v : ℕ) (f : ℕ → Refusal) (rest : Checked) → 0 < v → orFirst v f rest ≡ Refused (f (v - 1))
+orFirst-pos zero f rest h = absurd (omega arith)
+orFirst-pos (suc v) f rest h = ap (λ (k : ℕ). Refused (f k)) (omega arith)
+
+pub orFirst-zero : (v : ℕ) (f : ℕ → Refusal) (rest : Checked) → v ≤ 0 → orFirst v f rest ≡ rest
+orFirst-zero zero f rest h = refl
+orFirst-zero (suc v) f rest h = absurd (omega arith)
+
+-- one rung of the ladder: a job that is fine passed its test
+rung : (b : Bool) (r : Refusal) (rest : Checked) (h : Head) → cond b (Refused r) rest ≡ Fine h → (b ≡ false) × (rest ≡ Fine h)
+rung true r rest h e = let z : _≡_ {A = ℕ} 0 1 = cc in absurd (omega arith)
+rung false r rest h e = (refl, e)
+
+pub sizes-whole : (s : List ℕ) (h : Head) → sizes s ≡ Fine h → Whole s h
+unfolding sizes
+sizes-whole s h e =
+    let r1 = rung (ltb (length s) 13) BadLength _ h e in
+    let r2 = rung (not (eqb (u32At s 0) (length s - 4))) BadLength _ h (r1 .1) in
+    let r3 = rung (not (eqb (u8At s 4) 1)) (BadVersion (u8At s 4)) _ h (r2 .1) in
+    let r4 = rung (ltb 255 (u16At s 5)) BadCounts _ h (r3 .1) in
+    let r5 = rung (ltb 16384 (u16At s 7)) BadCounts _ h (r4 .1) in
+    let r6 = rung (not (eqb (length s) (sizeOf (headOf s)))) BadSize (Fine (headOf s)) h (r5 .1) in
+    let f : Fine (headOf s) ≡ Fine h = r6 .1 in
+    let q : h ≡ headOf s = cc in
+    record {
+      head = q;
+      size = rw q (eqb-true _ _ (not-false _ (r6 .0)));
+      fewChains = rw q (ltb-false _ _ (r4 .0));
+      fewResidues = rw q (ltb-false _ _ (r5 .0));
+    }
+
+-- the last of three tests decides where the others fail
+pub or-last : {a b c x : Bool} → a ≡ false → b ≡ false → x ≡ c → x ≡ (a || (b || c))
+or-last {a} {b} {c} {x} p q r = rw (p, q, r)
+
+-- a job that passes the checks is whole
+step : (v : ℕ) (f : ℕ → Refusal) (rest : Checked) (h : Head) → orFirst v f rest ≡ Fine h → (v ≡ 0) × (rest ≡ Fine h)
+step zero f rest h e = (refl, e)
+step (suc v) f rest h e = let z : _≡_ {A = ℕ} 0 1 = cc in absurd (omega arith)
+
+contents-same : (s : List ℕ) (h h' : Head) → contents s h ≡ Fine h' → h ≡ h'
+unfolding contents
+contents-same s h h' e =
+    let a = step (first (badVisibility s h) (h .chains)) BadVisibility _ h' e in
+    let b = step (first (badKind s h) (h .segments)) BadKind _ h' (a .1) in
+    let c = step (first (badAtom s h) (h .atoms)) BadAtom _ h' (b .1) in
+    let d = step (first (badCoordinate s h) (h .atoms)) BadCoordinate (Fine h) h' (c .1) in
+    let f : Fine h ≡ Fine h' = d .1 in
+    cc
+
+pub check-whole : (s : List ℕ) (h : Head) → check s ≡ Fine h → Whole s h
+unfolding check
+check-whole s h e = go (sizes s) refl e
+  where
+    go : (x : Checked) → sizes s ≡ x → andThen x (contents s) ≡ Fine h → Whole s h
+    go (Refused r) q e = let z : _≡_ {A = ℕ} 0 1 = cc in absurd (omega arith)
+    go (Fine k) q e = subst (λ (k : Head). Whole s k) (contents-same s k h e) (sizes-whole s k q)

@@ -1,0 +1,45 @@
+-- Where each field of a job stands: 01, 'Job bytes'. The one place that knows the layout.
+use Prim.Native.Nat.{ℕ, _+_, _*_, _≤_}
+use mathlib.Core.List.{List}
+use mathlib.Core.Path.{_≡_}
+use lib.ListN.{length}
+use Rattle.job.specs.Bytes.{u8At, u16At, u32At, u64At}
+use Rattle.job.specs.declared.Head.{Head}
+
+-- 'u32: bytes that follow these four. u8 version'
+abbrev pub lengthField : List ℕ → ℕ
+lengthField s = u32At s 0
+
+abbrev pub versionOf : List ℕ → ℕ
+versionOf s = u8At s 4
+
+-- 'Four u16: chains C, residues R, segments S, atoms A'
+abbrev pub headOf : List ℕ → Head
+headOf s = record { chains = u16At s 5; residues = u16At s 7; segments = u16At s 9; atoms = u16At s 11 }
+
+-- 'Then C bytes, visible 1 or hidden 0'
+abbrev pub chainAt : ℕ → ℕ
+chainAt c = 13 + c
+
+-- 'Then S records of 9 bytes: kind, u32 start serial, u32 end serial'
+abbrev pub segmentAt : Head → ℕ → ℕ
+segmentAt h i = 13 + h .chains + 9 * i
+
+-- 'Then A records of 33 bytes: u32 serial, role, u16 residue, u16 chain, x, y, z as f64 bits'
+abbrev pub atomAt : Head → ℕ → ℕ
+atomAt h a = 13 + h .chains + 9 * h .segments + 33 * a
+
+-- 'Whole job: 13 + C + 9S + 33A bytes': where an atom after the last would stand
+abbrev pub sizeOf : Head → ℕ
+sizeOf h = atomAt h (h .atoms)
+
+-- 'For residue or chain, 65535 means none'
+abbrev pub none : ℕ
+none = 65535
+
+-- a job that passed checks 1 to 4
+pub record Whole (s : List ℕ) (h : Head) : Type 0 where
+  pub head : h ≡ headOf s
+  pub size : length s ≡ sizeOf h
+  pub fewChains : h .chains ≤ 255
+  pub fewResidues : h .residues ≤ 16384

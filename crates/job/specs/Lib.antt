@@ -1,0 +1,6 @@
+pub mod Bytes
+pub mod Search
+pub mod Layout
+pub mod Refusals
+pub mod Coordinate
+pub mod Check

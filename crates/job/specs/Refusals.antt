@@ -1,0 +1,33 @@
+-- 01's table of refusals: the number and the carried values of each.
+use Prim.Native.Nat.{ℕ}
+use mathlib.Core.List.{List, [], _∷_}
+use Rattle.job.specs.declared.Refusal.{Refusal}
+use Rattle.job.specs.declared.Refusal.the-variants.{BadLength, BadVersion, BadCounts, BadSize, BadVisibility, BadKind, BadAtom, BadCoordinate, NoScratch, TooManyVertices, NoRoom}
+
+-- the column 'No.'
+abbrev pub numberOf : Refusal → ℕ
+numberOf BadLength = 1
+numberOf (BadVersion v) = 2
+numberOf BadCounts = 3
+numberOf BadSize = 4
+numberOf (BadVisibility i) = 5
+numberOf (BadKind i) = 6
+numberOf (BadAtom i) = 7
+numberOf (BadCoordinate i) = 8
+numberOf NoScratch = 9
+numberOf TooManyVertices = 10
+numberOf (NoRoom k v t) = 11
+
+-- the column 'Carries'
+abbrev pub carried : Refusal → List ℕ
+carried BadLength = 0 ∷ []
+carried (BadVersion v) = v ∷ []
+carried BadCounts = 0 ∷ []
+carried BadSize = 0 ∷ []
+carried (BadVisibility i) = i ∷ []
+carried (BadKind i) = i ∷ []
+carried (BadAtom i) = i ∷ []
+carried (BadCoordinate i) = i ∷ []
+carried NoScratch = 0 ∷ []
+carried TooManyVertices = 0 ∷ []
+carried (NoRoom k v t) = k ∷ v ∷ t ∷ []

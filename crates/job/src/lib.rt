@@ -1,0 +1,255 @@
+// Job bytes: fields, layout, checks 1 to 8, and the refusals of every call (01, 'Job bytes' and 'Refusal numbers').
+ghost use mathlib.Core.Path.{_≡_};
+ghost use mathlib.Core.Bool.{Bool, not};
+ghost use Prim.Native.Nat.{_+_, _≤_, _<_};
+ghost use lib.ListN.{length};
+ghost use Rattle.job.specs.Search.{first};
+ghost use Rattle.job.specs.Bytes.{u8At, u16At, u32At, u64At};
+ghost use Rattle.job.specs.Coordinate.{within};
+ghost use Rattle.job.specs.Layout.{Whole, segmentAt, atomAt};
+ghost use Rattle.job.specs.Check.{sizes, contents, check, stray, badVisibility, badKind, badAtom, badCoordinate};
+
+// The counts of a job: chains C, residues R, segments S, atoms A.
+pub struct Head {
+    pub chains: u16,
+    pub residues: u16,
+    pub segments: u16,
+    pub atoms: u16,
+}
+
+// 01's refusals, 1 to 11, in its order, with what each carries. `numberOf` and `carried` of specs/Refusals set out its table.
+pub enum Refusal {
+    BadLength,
+    BadVersion(u8),
+    BadCounts,
+    BadSize,
+    BadVisibility(usize),
+    BadKind(usize),
+    BadAtom(usize),
+    BadCoordinate(usize),
+    NoScratch,
+    TooManyVertices,
+    NoRoom(usize, usize, usize),
+}
+
+// What the checks of a job's bytes answer: its counts, or a refusal.
+pub enum Checked {
+    Fine(Head),
+    Refused(Refusal),
+}
+
+pub fn byte_at(b: &[u8], at: usize) -> usize
+    requires { ⌜ at < length (now b) ⌝ }
+    ensures { λ r. ⌜ (r ≡ u8At (now (b .entry)) at) × (r < 256) ⌝ }
+{
+    b[at] as usize
+}
+
+pub fn u16_at(b: &[u8], at: usize) -> usize
+    requires { ⌜ at + 2 ≤ length (now b) ⌝ }
+    ensures { λ r. ⌜ (r ≡ u16At (now (b .entry)) at) × (r < 65536) ⌝ }
+{
+    byte_at(b, at) * 256 + byte_at(b, at + 1)
+}
+
+pub fn u32_at(b: &[u8], at: usize) -> usize
+    requires { ⌜ at + 4 ≤ length (now b) ⌝ }
+    ensures { λ r. ⌜ (r ≡ u32At (now (b .entry)) at) × (r < 4294967296) ⌝ }
+{
+    u16_at(b, at) * 65536 + u16_at(b, at + 2)
+}
+
+pub fn u64_at(b: &[u8], at: usize) -> u64
+    requires { ⌜ at + 8 ≤ length (now b) ⌝ }
+    ensures { λ r. ⌜ r ≡ u64At (now (b .entry)) at ⌝ }
+{
+    (u32_at(b, at) * 4294967296 + u32_at(b, at + 4)) as u64
+}
+
+pub fn segment_at(h: Head, i: usize) -> usize
+    requires { ⌜ i ≤ 65536 ⌝ }
+    ensures { λ r. ⌜ r ≡ segmentAt h i ⌝ }
+{
+    13 + (h.chains as usize) + 9 * i
+}
+
+pub fn atom_at(h: Head, a: usize) -> usize
+    requires { ⌜ a ≤ 65536 ⌝ }
+    ensures { λ r. ⌜ r ≡ atomAt h a ⌝ }
+{
+    13 + (h.chains as usize) + 9 * (h.segments as usize) + 33 * a
+}
+
+// Checks 1 to 4.
+pub fn check_sizes(b: &[u8]) -> Checked
+    ensures { λ r. ⌜ r ≡ sizes (now (b .entry)) ⌝ }
+{
+    if b.len() < 13 {
+        return Checked::Refused(Refusal::BadLength);
+    }
+    if u32_at(b, 0) != b.len() - 4 {
+        return Checked::Refused(Refusal::BadLength);
+    }
+    let v = b[4];
+    if v != 1 {
+        return Checked::Refused(Refusal::BadVersion(v));
+    }
+    let chains = u16_at(b, 5);
+    let residues = u16_at(b, 7);
+    let segments = u16_at(b, 9);
+    let atoms = u16_at(b, 11);
+    if 255 < chains {
+        return Checked::Refused(Refusal::BadCounts);
+    }
+    if 16384 < residues {
+        return Checked::Refused(Refusal::BadCounts);
+    }
+    if b.len() != 13 + chains + 9 * segments + 33 * atoms {
+        return Checked::Refused(Refusal::BadSize);
+    }
+    Checked::Fine(Head {
+        chains: chains as u16,
+        residues: residues as u16,
+        segments: segments as u16,
+        atoms: atoms as u16,
+    })
+}
+
+// The searches answer one more than the first index at fault, or 0.
+pub fn find_visibility(b: &[u8], h: Head) -> usize
+    requires { ⌜ Whole (now b) h ⌝ }
+    ensures { λ r. ⌜ r ≡ first (badVisibility (now (b .entry)) h) (h .chains) ⌝ }
+{
+    let n = h.chains as usize;
+    let mut i = 0;
+    while i < n {
+        if 1 < b[13 + i] {
+            return i + 1;
+        }
+        i += 1;
+    }
+    0
+}
+
+pub fn find_kind(b: &[u8], h: Head) -> usize
+    requires { ⌜ Whole (now b) h ⌝ }
+    ensures { λ r. ⌜ r ≡ first (badKind (now (b .entry)) h) (h .segments) ⌝ }
+{
+    let n = h.segments as usize;
+    let mut i = 0;
+    while i < n {
+        let at = segment_at(h, i);
+        if 2 < b[at] {
+            return i + 1;
+        }
+        i += 1;
+    }
+    0
+}
+
+pub fn is_stray(limit: usize, v: usize) -> bool
+    ensures { λ r. ⌜ r ≡ stray limit v ⌝ }
+{
+    if v == 65535 {
+        return false;
+    }
+    limit <= v
+}
+
+pub fn is_bad_atom(b: &[u8], h: Head, a: usize) -> bool
+    requires { ⌜ Whole (now b) h × a < h .atoms ⌝ }
+    ensures { λ r. ⌜ r ≡ badAtom (now (b .entry)) h a ⌝ }
+{
+    let at = atom_at(h, a);
+    if 2 < b[at + 4] {
+        return true;
+    }
+    if is_stray(h.residues as usize, u16_at(b, at + 5)) {
+        return true;
+    }
+    is_stray(h.chains as usize, u16_at(b, at + 7))
+}
+
+pub fn find_atom(b: &[u8], h: Head) -> usize
+    requires { ⌜ Whole (now b) h ⌝ }
+    ensures { λ r. ⌜ r ≡ first (badAtom (now (b .entry)) h) (h .atoms) ⌝ }
+{
+    let n = h.atoms as usize;
+    let mut i = 0;
+    while i < n {
+        if is_bad_atom(b, h, i) {
+            return i + 1;
+        }
+        i += 1;
+    }
+    0
+}
+
+pub fn is_outside(x: u64) -> bool
+    ensures { λ r. ⌜ r ≡ not (within x) ⌝ }
+{
+    0x40D0_0000_0000_0000 < x % 0x8000_0000_0000_0000
+}
+
+pub fn is_bad_coordinate(b: &[u8], h: Head, a: usize) -> bool
+    requires { ⌜ Whole (now b) h × a < h .atoms ⌝ }
+    ensures { λ r. ⌜ r ≡ badCoordinate (now (b .entry)) h a ⌝ }
+{
+    let at = atom_at(h, a);
+    if is_outside(u64_at(b, at + 9)) {
+        return true;
+    }
+    if is_outside(u64_at(b, at + 17)) {
+        return true;
+    }
+    is_outside(u64_at(b, at + 25))
+}
+
+pub fn find_coordinate(b: &[u8], h: Head) -> usize
+    requires { ⌜ Whole (now b) h ⌝ }
+    ensures { λ r. ⌜ r ≡ first (badCoordinate (now (b .entry)) h) (h .atoms) ⌝ }
+{
+    let n = h.atoms as usize;
+    let mut i = 0;
+    while i < n {
+        if is_bad_coordinate(b, h, i) {
+            return i + 1;
+        }
+        i += 1;
+    }
+    0
+}
+
+// Checks 5 to 8.
+pub fn check_contents(b: &[u8], h: Head) -> Checked
+    requires { ⌜ Whole (now b) h ⌝ }
+    ensures { λ r. ⌜ r ≡ contents (now (b .entry)) h ⌝ }
+{
+    let v = find_visibility(b, h);
+    if 0 < v {
+        return Checked::Refused(Refusal::BadVisibility(v - 1));
+    }
+    let k = find_kind(b, h);
+    if 0 < k {
+        return Checked::Refused(Refusal::BadKind(k - 1));
+    }
+    let a = find_atom(b, h);
+    if 0 < a {
+        return Checked::Refused(Refusal::BadAtom(a - 1));
+    }
+    let x = find_coordinate(b, h);
+    if 0 < x {
+        return Checked::Refused(Refusal::BadCoordinate(x - 1));
+    }
+    Checked::Fine(h)
+}
+
+pub fn check_job(b: &[u8]) -> Checked
+    ensures { λ r. ⌜ r ≡ check (now (b .entry)) ⌝ }
+{
+    let s = check_sizes(b);
+    match s {
+        Checked::Refused(r) => Checked::Refused(r),
+        Checked::Fine(h) => check_contents(b, h),
+    }
+}
