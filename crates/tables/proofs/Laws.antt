@@ -1,0 +1,197 @@
+-- Laws of `Filled`, the tables of the scratch, and of `last`, one turn of a loop at a time. Assumes nothing.
+use Prim.Native.Nat.{ℕ, zero, suc, _+_, _-_, _<_, _≤_}
+use mathlib.Core.Bool.{Bool, true, false, cond, _&&_}
+use mathlib.Core.List.{List}
+use mathlib.Core.Path.{_≡_, refl, sym, _∙_, ap, subst}
+use mathlib.Core.Logic.{⊎-elim, _≢_}
+use native.Mathlib.Nat.{eq-or-lt-of-le, le-of-suc-le-suc, zero-add}
+use native.Mathlib.Numerals.{add-one}
+use native.Mathlib.Omega.{arith}
+use native.Mathlib.Decide.{ℕ-discrete}
+use lib.ListN.{length, getD, set, length-set}
+use lib.Seq.{getD-set-same, getD-set-other}
+use lib.Dec.{eqb}
+use borrow.Author.Tests.{eq-eqb, ne-eqb, eqb-true, eqb-false, not-true, not-false}
+use Rattle.job.specs.Search.{first, last, orElse}
+use Rattle.tables.specs.Table.{Filled, keeps}
+use Rattle.tables.specs.Job.{Job, wants, gives, found, codeAt, chainOf}
+use Rattle.tables.specs.declared.Want.the-variants.{Chain}
+use Rattle.tables.specs.declared.Want.{Want}
+use Rattle.tables.specs.declared.Which.{Which}
+use Rattle.tables.specs.declared.Which.the-variants.{First, Last}
+
+-- a store at r₀'s place makes the table that of g, where g differs from f at r₀ alone
+pub fill-set : (f g : ℕ → ℕ) (base n : ℕ) (t₀ t : List ℕ) (r₀ v : ℕ) → Filled f base n t₀ t → r₀ < n → base + n ≤ length t₀
+    → g r₀ ≡ v → ((r : ℕ) → r < n → r ≢ r₀ → g r ≡ f r) → Filled g base n t₀ (set t (base + r₀) v)
+fill-set f g base n t₀ t r₀ v F l fits here there = record {
+  size = length-set t (base + r₀) v ∙ F .size;
+  entry = λ r h. go r h (eqb r r₀) refl;
+  before = λ j h. getD-set-other t (base + r₀) j v 0 (λ e. omega arith) ∙ F .before j h;
+  after = λ j h. getD-set-other t (base + r₀) j v 0 (λ e. omega arith) ∙ F .after j h;
+}
+  where
+    go : (r : ℕ) → r < n → (b : Bool) → eqb r r₀ ≡ b → getD (set t (base + r₀) v) (base + r) 0 ≡ g r
+    go r h true e =
+        let q = eqb-true r r₀ e in
+        let z = F .size in
+        rw q (getD-set-same t (base + r₀) v 0 (omega arith) ∙ sym here)
+    go r h false e =
+        let q = eqb-false r r₀ e in
+        getD-set-other t (base + r₀) (base + r) v 0 (λ p. q (omega arith)) ∙ F .entry r h ∙ sym (there r h q)
+
+pub fill-same : (f g : ℕ → ℕ) (base n : ℕ) (t₀ t : List ℕ) → Filled f base n t₀ t → ((r : ℕ) → r < n → g r ≡ f r) → Filled g base n t₀ t
+fill-same f g base n t₀ t F same = record {
+  size = F .size;
+  entry = λ r h. F .entry r h ∙ sym (same r h);
+  before = F .before;
+  after = F .after;
+}
+
+pub fill-start : (f : ℕ → ℕ) (base n : ℕ) (t : List ℕ) → ((r : ℕ) → r < n → getD t (base + r) 0 ≡ f r) → Filled f base n t t
+fill-start f base n t h = record { size = refl; entry = h; before = λ j l. refl; after = λ j l. refl }
+
+pub last-zero : (t : ℕ → Bool) → last t 0 ≡ 0
+unfolding last
+last-zero t = refl
+
+pub last-yes : (t : ℕ → Bool) (n : ℕ) → t n ≡ true → last t (n + 1) ≡ n + 1
+unfolding last
+last-yes t n e = rw (add-one, e)
+
+pub last-no : (t : ℕ → Bool) (n : ℕ) → t n ≡ false → last t (n + 1) ≡ last t n
+unfolding last
+last-no t n e = rw (add-one, e)
+
+pub and-false : (a : Bool) → (a && false) ≡ false
+and-false true = refl
+and-false false = refl
+
+-- an atom is given to its own residue alone
+pub gives-yes : (J : Job) (w : Want) (r a : ℕ) → r ≡ J .residue a → wants J w a ≡ true → gives J w r a ≡ true
+unfolding gives
+gives-yes J w r a q e = rw (eq-eqb _ _ (sym q), e)
+
+pub gives-other : (J : Job) (w : Want) (r a : ℕ) → (J .residue a ≡ r → ⊥) → gives J w r a ≡ false
+unfolding gives
+gives-other J w r a q = rw (ne-eqb _ _ q)
+
+pub gives-no : (J : Job) (w : Want) (r a : ℕ) → wants J w a ≡ false → gives J w r a ≡ false
+unfolding gives
+gives-no J w r a e = rw (e, and-false)
+
+pub first-zero : (t : ℕ → Bool) → first t 0 ≡ 0
+unfolding first
+first-zero t = refl
+
+first-yes : (t : ℕ → Bool) (n : ℕ) → first t n ≡ 0 → t n ≡ true → first t (n + 1) ≡ n + 1
+unfolding first
+first-yes t n z e = rw (add-one, z, e)
+
+orElse-zero : (a : ℕ) → orElse a 0 ≡ a
+orElse-zero zero = refl
+orElse-zero (suc a) = refl
+
+first-no : (t : ℕ → Bool) (n : ℕ) → t n ≡ false → first t (n + 1) ≡ first t n
+unfolding first
+first-no t n e = rw (add-one, e, orElse-zero)
+
+orElse-left : (a b : ℕ) → (a ≡ 0 → ⊥) → orElse a b ≡ a
+orElse-left zero b h = absurd (h refl)
+orElse-left (suc a) b h = refl
+
+first-kept : (t : ℕ → Bool) (n : ℕ) → (first t n ≡ 0 → ⊥) → first t (n + 1) ≡ first t n
+unfolding first
+first-kept t n h = rw (add-one, orElse-left (first t n) _ h)
+
+-- what a search finds when one more atom is looked at, for the first and the last alike
+pub found-zero : (x : Which) (t : ℕ → Bool) → found x t 0 ≡ 0
+unfolding found
+found-zero First t = first-zero t
+found-zero Last t = last-zero t
+
+pub found-yes : (x : Which) (t : ℕ → Bool) (n : ℕ) → keeps x (found x t n) ≡ false → t n ≡ true → found x t (n + 1) ≡ n + 1
+unfolding keeps found
+found-yes First t n k e = first-yes t n (eqb-true _ _ (not-false _ k)) e
+found-yes Last t n k e = last-yes t n e
+
+pub found-no : (x : Which) (t : ℕ → Bool) (n : ℕ) → t n ≡ false → found x t (n + 1) ≡ found x t n
+unfolding found
+found-no First t n e = first-no t n e
+found-no Last t n e = last-no t n e
+
+pub found-kept : (x : Which) (t : ℕ → Bool) (n : ℕ) → keeps x (found x t n) ≡ true → found x t (n + 1) ≡ found x t n
+unfolding keeps found
+found-kept First t n k = first-kept t n (eqb-false _ _ (not-true _ k))
+found-kept Last t n k = let z : true ≡ false = sym k in absurd (true-false k)
+  where
+    true-false : false ≡ true → ⊥
+    true-false e = let z : _≡_ {A = ℕ} 0 1 = cc in omega arith
+
+-- one turn of `fill`: the atom a is stored for its residue, is not asked for, has no residue, or comes after the first
+module _ (J : Job) (x : Which) (w : Want) (base n : ℕ) (t₀ t : List ℕ) (a : ℕ) (F : Filled (λ r. found x (gives J w r) a) base n t₀ t) where
+  pub turn-hit : (r : ℕ) → base + n ≤ length t₀ → r ≡ J .residue a → r < n → keeps x (getD t (base + r) 0) ≡ false → wants J w a ≡ true
+      → Filled (λ r. found x (gives J w r) (a + 1)) base n t₀ (set t (base + r) (a + 1))
+  turn-hit r fits q l k e =
+      fill-set _ _ base n t₀ t r (a + 1) F l fits (found-yes x _ a (ap (keeps x) (sym (F .entry r l)) ∙ k) (gives-yes J w r a q e))
+      (λ i m ne. found-no x _ a (gives-other J w i a (λ p. ne (sym p ∙ sym q))))
+
+  pub turn-miss : wants J w a ≡ false → Filled (λ r. found x (gives J w r) (a + 1)) base n t₀ t
+  turn-miss e = fill-same _ _ base n t₀ t F (λ r l. found-no x _ a (gives-no J w r a e))
+
+  pub turn-out : n ≤ J .residue a → Filled (λ r. found x (gives J w r) (a + 1)) base n t₀ t
+  turn-out out = fill-same _ _ base n t₀ t F (λ r l. found-no x _ a (gives-other J w r a (λ p. omega arith)))
+
+  pub turn-kept : (r : ℕ) → r ≡ J .residue a → r < n → keeps x (getD t (base + r) 0) ≡ true → Filled (λ r. found x (gives J w r) (a + 1)) base n t₀ t
+  turn-kept r q l k = fill-same _ _ base n t₀ t F (λ i m. go i m (eqb i r) refl)
+    where
+      go : (i : ℕ) → i < n → (b : Bool) → eqb i r ≡ b → found x (gives J w i) (a + 1) ≡ found x (gives J w i) a
+      go i m true e =
+          found-kept x _ a (ap (keeps x) (sym (F .entry i m) ∙ ap (λ (j : ℕ). getD t (base + j) 0) (eqb-true i r e)) ∙ k)
+      go i m false e = found-no x _ a (gives-other J w i a (λ p. eqb-false i r e (sym p ∙ sym q)))
+
+pub last-le : (t : ℕ → Bool) (n : ℕ) → last t n ≤ n
+unfolding last
+last-le t zero = omega arith
+last-le t (suc n) = go (last-le t n) (t n)
+  where
+    go : last t n ≤ n → (b : Bool) → cond b (suc n) (last t n) ≤ suc n
+    go h true = omega arith
+    go h false = omega arith
+
+-- a table from 0 that grows by one place
+module _ (f : ℕ → ℕ) (i : ℕ) (t₀ t : List ℕ) (F : Filled f 0 i t₀ t) where
+  pub grow-at : getD t i 0 ≡ getD t₀ i 0
+  grow-at = F .after i (omega arith)
+
+  pub grow-same : getD t i 0 ≡ f i → Filled f 0 (i + 1) t₀ t
+  grow-same e = record {
+    size = F .size;
+    entry = λ r h. ⊎-elim (λ q. rw q (rw zero-add e)) (λ m. F .entry r m) (eq-or-lt-of-le (le-of-suc-le-suc (rw add-one at h)));
+    before = F .before;
+    after = λ j h. F .after j (omega arith);
+  }
+
+  pub grow-set : (v : ℕ) → i < length t₀ → v ≡ f i → Filled f 0 (i + 1) t₀ (set t i v)
+  grow-set v l e =
+      let z = F .size in
+      record {
+        size = length-set t i v ∙ F .size;
+        entry = λ r h. ⊎-elim
+            (λ q. rw q (rw zero-add (getD-set-same t i v 0 (omega arith) ∙ e)))
+            (λ m. rw zero-add (getD-set-other t i r v 0 (λ q. omega arith) ∙ rw zero-add at (F .entry r m)))
+            (eq-or-lt-of-le (le-of-suc-le-suc (rw add-one at h)));
+        before = λ j h. absurd (omega arith);
+        after = λ j h. getD-set-other t i j v 0 (λ q. omega arith) ∙ F .after j (omega arith);
+      }
+
+pub code-none : (J : Job) (r a : ℕ) → a ≡ last (gives J Chain r) (J .atoms) → a ≡ 0 → a ≡ chainOf J r
+unfolding chainOf
+code-none J r a e z = z ∙ sym (rw (← e, z))
+
+pub code-some : (J : Job) (r a : ℕ) → a ≡ last (gives J Chain r) (J .atoms) → (a ≡ 0 → ⊥) → J .chain (a - 1) + 1 ≡ chainOf J r
+unfolding chainOf
+code-some J r a e ne = rw (← e) (go a ne)
+  where
+    go : (a : ℕ) → (a ≡ 0 → ⊥) → J .chain (a - 1) + 1 ≡ codeAt J a
+    go zero ne = absurd (ne refl)
+    go (suc a) ne = let q : suc a - 1 ≡ a = omega arith in rw q

@@ -1,0 +1,138 @@
+// Residue tables in lent scratch: for each residue an atom, counted from 1, or 0.
+use job::Head;
+ghost use mathlib.Core.Path.{_≡_};
+ghost use mathlib.Core.Bool.{Bool, _&&_};
+ghost use Prim.Native.Nat.{ℕ, _+_, _≤_, _<_};
+ghost use lib.ListN.{length, getD};
+ghost use lib.Dec.{eqb};
+ghost use Rattle.job.specs.Search.{last};
+ghost use Rattle.job.specs.Layout.{Whole};
+ghost use Rattle.tables.specs.Job.{jobOf, inside, wants, gives, found, chainOf};
+ghost use Rattle.tables.specs.Table.{Filled, keeps};
+
+// Serial numbers from start to stop, both included.
+pub struct Range {
+    pub start: usize,
+    pub stop: usize,
+}
+
+// Which atoms a table asks for.
+pub enum Want {
+    Chain,
+    Alpha,
+    SegmentAlpha(Range),
+    SegmentOxygen(Range),
+}
+
+// Which of the atoms asked for: the first of a residue, or the last.
+pub enum Which {
+    First,
+    Last,
+}
+
+fn is_inside(g: Range, v: usize) -> bool
+    ensures { λ r. ⌜ r ≡ inside g v ⌝ }
+{
+    if v < g.start {
+        return false;
+    }
+    v <= g.stop
+}
+
+fn has_role(b: &[u8], h: Head, a: usize, role: usize) -> bool
+    requires { ⌜ Whole (now b) h × a < h .atoms ⌝ }
+    ensures { λ r. ⌜ r ≡ eqb (jobOf (now (b .entry)) h .role a) role ⌝ }
+{
+    job::byte_at(b, job::atom_at(h, a) + 4) == role
+}
+
+fn serial(b: &[u8], h: Head, a: usize) -> usize
+    requires { ⌜ Whole (now b) h × a < h .atoms ⌝ }
+    ensures { λ r. ⌜ r ≡ jobOf (now (b .entry)) h .serial a ⌝ }
+{
+    job::u32_at(b, job::atom_at(h, a))
+}
+
+fn residue(b: &[u8], h: Head, a: usize) -> usize
+    requires { ⌜ Whole (now b) h × a < h .atoms ⌝ }
+    ensures { λ r. ⌜ r ≡ jobOf (now (b .entry)) h .residue a ⌝ }
+{
+    job::u16_at(b, job::atom_at(h, a) + 5)
+}
+
+fn chain(b: &[u8], h: Head, a: usize) -> usize
+    requires { ⌜ Whole (now b) h × a < h .atoms ⌝ }
+    ensures { λ r. ⌜ (r ≡ jobOf (now (b .entry)) h .chain a) × (r < 65536) ⌝ }
+{
+    job::u16_at(b, job::atom_at(h, a) + 7)
+}
+
+fn is_wanted(b: &[u8], h: Head, w: Want, a: usize) -> bool
+    requires { ⌜ Whole (now b) h × a < h .atoms ⌝ }
+    ensures { λ r. ⌜ r ≡ wants (jobOf (now (b .entry)) h) w a ⌝ }
+{
+    match w {
+        Want::Chain => chain(b, h, a) != 65535,
+        Want::Alpha => has_role(b, h, a, 1),
+        Want::SegmentAlpha(g) => {
+            if has_role(b, h, a, 1) {
+                return is_inside(g, serial(b, h, a));
+            }
+            false
+        }
+        Want::SegmentOxygen(g) => {
+            if has_role(b, h, a, 2) {
+                return is_inside(g, serial(b, h, a));
+            }
+            false
+        }
+    }
+}
+
+// Whether an entry stays though a later atom is asked for.
+fn is_kept(which: Which, v: u32) -> bool
+    ensures { λ r. ⌜ r ≡ keeps which v ⌝ }
+{
+    match which {
+        Which::First => v != 0,
+        Which::Last => false,
+    }
+}
+
+// For each residue one more than the first or the last atom asked for, or 0, in the table at base, which is all 0 before.
+pub fn fill(b: &[u8], h: Head, which: Which, w: Want, t: &mut [u32], base: usize)
+    requires { ⌜ Whole (now b) h × (base + h .residues ≤ length (now t)) ⌝ }
+    requires { ⌜ ((r : ℕ) → r < h .residues → getD (now t) (base + r) 0 ≡ 0) ⌝ }
+    ensures { λ _. ⌜ Filled (λ r. found which (gives (jobOf (now (b .entry)) h) w r) (h .atoms)) base (h .residues) (now (t .entry)) (now (t .exit)) ⌝ }
+{
+    let n = h.atoms as usize;
+    let mut a = 0;
+    while a < n {
+        let r = residue(b, h, a);
+        if r < h.residues as usize {
+            if !is_kept(which, t[base + r]) {
+                if is_wanted(b, h, w, a) {
+                    t[base + r] = (a + 1) as u32;
+                }
+            }
+        }
+        a += 1;
+    }
+}
+
+// Turns the atoms of the first table, which `fill` wrote for `Want::Chain`, into codes of chains: 0, or one more than the chain.
+pub fn to_chains(b: &[u8], h: Head, t: &mut [u32])
+    requires { ⌜ Whole (now b) h × (h .residues ≤ length (now t)) ⌝ }
+    requires { ⌜ ((r : ℕ) → r < h .residues → getD (now t) r 0 ≡ last (gives (jobOf (now b) h) Want.Chain r) (h .atoms)) ⌝ }
+    ensures { λ _. ⌜ Filled (chainOf (jobOf (now (b .entry)) h)) 0 (h .residues) (now (t .entry)) (now (t .exit)) ⌝ }
+{
+    let n = h.residues as usize;
+    let mut i = 0;
+    while i < n {
+        let a = t[i] as usize;
+        if a != 0 {
+            t[i] = (chain(b, h, a - 1) + 1) as u32;
+        }
+        i += 1;
+    }
+}
