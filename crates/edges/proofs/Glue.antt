@@ -1,0 +1,89 @@
+-- Triangle lists one after the other, over vertices one after the other: the rules hold of the whole where they hold of the parts, and
+-- the edge rule of the parts where it holds of the whole. Assumes nothing.
+use mathlib.Core.Path.{_≡_, refl, _∙_}
+use mathlib.Core.Logic.{⊎-elim}
+use mathlib.Core.List.{List, [], _++_}
+use Prim.Native.Nat.{ℕ, _+_, _*_, _-_, _≤_, _<_, min, max}
+use native.Mathlib.Nat.{eq-zero-or-pos}
+use native.Mathlib.Omega.{arith}
+use lib.ListN.{length, getD, length-append, List·getD-append}
+use lib.Seq.{getD-append-add}
+use Rattle.edges.specs.Sound.{occurs, CornersIn, EdgesPaired, Sound, Part}
+use Rattle.edges.proofs.Count.{occurs-append}
+use Rattle.edges.proofs.Piece.{Lies, Piece, join}
+use Rattle.edges.proofs.Tube.{Closed, lt-or-le}
+use Rattle.edges.proofs.Corners.{sound, closed, ends}
+
+-- two sound lists, one after the other, over vertices one after the other
+pub glue : (o v w t s : ℕ) (l r : List ℕ) → o ≤ v → v ≤ w → Sound o v t l → Sound v w s r → Sound o w (t + s) (l ++ r)
+glue o v w t s l r ov vw a b =
+    let c = closed o v t l a in
+    let d = closed v w s r b in
+    let both : (x y : ℕ) → occurs x y (l ++ r) ≡ occurs x y l + occurs x y r = λ x y. occurs-append x y t l r (a .size) in
+    sound o w (t + s) (l ++ r) (length-append l r ∙ omega (arith, a .size, b .size)) (record {
+      piece = join o w o w _ (c .piece) (d .piece) (λ x y h i. omega (arith, c .piece .lies x y h, d .piece .lies x y i)) (λ x y i. omega arith) (λ x y i. omega arith) both;
+      used = λ u i h. ⊎-elim
+          (λ j. let e = c .used u i j in (e .0, omega (arith, both u (e .0), e .1)))
+          (λ j. let e = d .used u j h in (e .0, omega (arith, both u (e .0), e .1)))
+          (lt-or-le u v);
+    })
+
+pub empty-sound : (o : ℕ) → Sound o o 0 []
+unfolding occurs
+empty-sound o = record {
+  size = refl;
+  within = λ i h. absurd (omega arith);
+  differ = λ t h. absurd (omega arith);
+  paired = λ x y h. absurd (omega arith);
+  used = λ u i h. absurd (omega arith);
+}
+
+-- ---- the edge rule by itself, of parts with no vertex in common
+
+-- both ends of an edge of a part are vertices of the part
+part-ends : {o v t : ℕ} {l : List ℕ} → Part o v t l → (x y : ℕ) → 0 < occurs x y l → ((o ≤ x) × (x < v)) × ((o ≤ y) × (y < v))
+part-ends {o} {v} {l} part x y h = ends (λ (u : ℕ). (o ≤ u) × (u < v)) x y l (part .within) h
+
+module _ {o v w t s : ℕ} {l r : List ℕ} (first : Part o v t l) (second : Part v w s r) where
+  -- an edge of one part is none of the other
+  apart : (x y : ℕ) → 0 < occurs x y l → (occurs x y r ≡ 0) × (occurs y x r ≡ 0)
+  apart x y h =
+      let in-l = part-ends first x y h in (
+        ⊎-elim (λ z. z) (λ k. absurd (omega (arith, part-ends second x y k))) (eq-zero-or-pos (occurs x y r)),
+        ⊎-elim (λ z. z) (λ k. absurd (omega (arith, part-ends second y x k))) (eq-zero-or-pos (occurs y x r)),
+      )
+
+  apart′ : (x y : ℕ) → 0 < occurs x y r → (occurs x y l ≡ 0) × (occurs y x l ≡ 0)
+  apart′ x y h = (
+    ⊎-elim (λ z. z) (λ k. absurd (omega (arith, apart x y k))) (eq-zero-or-pos (occurs x y l)),
+    ⊎-elim (λ z. z) (λ k. absurd (omega (arith, apart y x k))) (eq-zero-or-pos (occurs y x l)),
+  )
+
+  sums : (x y : ℕ) → occurs x y (l ++ r) ≡ occurs x y l + occurs x y r
+  sums x y = occurs-append x y t l r (first .size)
+
+  -- it holds of the parts where it holds of the whole
+  pub unglue : EdgesPaired (l ++ r) → EdgesPaired l × EdgesPaired r
+  unglue all = (
+    λ x y h. let p = all x y (omega (arith, sums x y)) in omega (arith, sums x y, sums y x, apart x y h),
+    λ x y h. let p = all x y (omega (arith, sums x y)) in omega (arith, sums x y, sums y x, apart′ x y h),
+  )
+
+  -- and of the whole where it holds of the parts
+  pub glue-paired : EdgesPaired l → EdgesPaired r → EdgesPaired (l ++ r)
+  glue-paired left right x y h = ⊎-elim
+      (λ z. let k : 0 < occurs x y r = omega (arith, sums x y) in omega (arith, sums x y, sums y x, right x y k, apart′ x y k))
+      (λ k. omega (arith, sums x y, sums y x, left x y k, apart x y k))
+      (eq-zero-or-pos (occurs x y l))
+
+  -- both parts are one
+  pub joined : o ≤ v → v ≤ w → Part o w (t + s) (l ++ r)
+  joined ov vw = record {
+    size = length-append l r ∙ omega (arith, first .size, second .size);
+    within = λ i h. ⊎-elim
+        (λ k. rw (List·getD-append l r 0 i k) (omega (arith, first .within i k)))
+        (λ k.
+        let e : length l + (i - length l) ≡ i = omega arith in
+        rw (← e) (rw (getD-append-add l r (i - length l) 0) (omega (arith, second .within (i - length l) (omega (arith, length-append l r))))))
+        (lt-or-le i (length l));
+  }

@@ -1,0 +1,11 @@
+pub mod Theorems
+pub mod Cases
+pub mod Count
+pub mod Family
+pub mod Piece
+pub mod Tube
+pub mod Corners
+pub mod Glue
+pub mod Owned
+pub mod Renumber
+pub mod Shift

@@ -1,0 +1,91 @@
+-- The triangles of a tube, in the Rust's order, over p sides, d divisions and n residues (02 §7), numbered from vertex o on; and of a mesh of
+-- tubes. 01 has p = 8 and d = 8. Definitions only; what holds of them is in proofs/Theorems.
+use mathlib.Core.Bool.{Bool, true, false, cond}
+use mathlib.Core.List.{List, [], _∷_, _++_, map}
+use Prim.Native.Nat.{ℕ, zero, suc, _+_, _*_, _-_, _%_}
+use lib.Dec.{ltb}
+use Rattle.buffers.specs.Put.{upto}
+
+-- ---- how many
+
+-- 'n = 1 gives none': what a piece of n residues gives is nothing where n is under two
+abbrev pub given : {A : Type 0} → ℕ → A → A → A
+given n nothing x = cond (ltb n 2) nothing x
+
+-- 'd(n-1)+1 rings'
+unfoldable pub rings : ℕ → ℕ → ℕ
+rings d n = given n 0 (d * (n - 1) + 1)
+
+-- 'p times that plus 2 vertices'
+unfoldable pub vertices : ℕ → ℕ → ℕ → ℕ
+vertices p d n = given n 0 (p * (d * (n - 1) + 1) + 2)
+
+-- '2pd(n-1)+2p triangles'
+unfoldable pub triangles : ℕ → ℕ → ℕ → ℕ
+triangles p d n = given n 0 (2 * p * d * (n - 1) + 2 * p)
+
+-- ---- where the vertices are: 'Vertices: ring, start centre, later rings, end centre'
+
+-- the first vertex of ring j: the start centre stands between ring 0 and ring 1
+unfoldable pub ring : ℕ → ℕ → ℕ → ℕ
+ring p o zero = o
+ring p o (suc j) = o + (p * suc j + 1)
+
+abbrev pub startCentre : ℕ → ℕ → ℕ
+startCentre p o = o + p
+
+-- the end centre stands after the last ring, ring m
+abbrev pub endCentre : ℕ → ℕ → ℕ → ℕ
+endCentre p o m = o + (p * suc m + 1)
+
+-- ---- the triangles
+
+-- the side after side k (the Rust's k1)
+unfoldable pub next : ℕ → ℕ → ℕ
+next p k = (k + 1) % p
+
+-- at side k of the ring that begins at a, a cap's triangle around centre c (`emit_cap`): the start cap's is inward, the end cap's is not
+abbrev pub capSide : ℕ → Bool → ℕ → ℕ → ℕ → List ℕ
+capSide p true c a k = c ∷ (a + next p k) ∷ (a + k) ∷ []
+capSide p false c a k = c ∷ (a + k) ∷ (a + next p k) ∷ []
+
+-- the two triangles at side k between the rings that begin at a and b (`append_ring_and_stitch`): (a0, b1, b0) and (a0, a1, b1)
+abbrev pub bandSide : ℕ → ℕ → ℕ → ℕ → List ℕ
+bandSide p a b k = (a + k) ∷ (b + next p k) ∷ (b + k) ∷ (a + k) ∷ (a + next p k) ∷ (b + next p k) ∷ []
+
+unfoldable pub cap : ℕ → Bool → ℕ → ℕ → List ℕ
+cap p inward c a = upto (capSide p inward c a) p
+
+unfoldable pub band : ℕ → ℕ → ℕ → List ℕ
+band p a b = upto (bandSide p a b) p
+
+-- the band between ring j and the next
+abbrev pub bandAt : ℕ → ℕ → ℕ → List ℕ
+bandAt p o j = band p (ring p o j) (ring p o (suc j))
+
+-- the start cap, m bands one after the other, the end cap: the triangles over rings 0 to m
+unfoldable pub stack : ℕ → ℕ → ℕ → List ℕ
+stack p m o = cap p true (startCentre p o) o ++ upto (bandAt p o) m ++ cap p false (endCentre p o m) (ring p o m)
+
+-- a tube of n residues: d bands for each step from a residue to the next
+unfoldable pub tube : ℕ → ℕ → ℕ → ℕ → List ℕ
+tube p d n o = given n [] (stack p (d * (n - 1)) o)
+
+-- ---- a mesh: tubes one after the other, each by its number of residues, numbered from o on
+
+unfoldable pub meshVertices : ℕ → ℕ → List ℕ → ℕ
+meshVertices p d [] = 0
+meshVertices p d (n ∷ ns) = vertices p d n + meshVertices p d ns
+
+unfoldable pub meshTriangles : ℕ → ℕ → List ℕ → ℕ
+meshTriangles p d [] = 0
+meshTriangles p d (n ∷ ns) = triangles p d n + meshTriangles p d ns
+
+-- each tube's vertices follow those of the tubes before it
+unfoldable pub mesh : ℕ → ℕ → ℕ → List ℕ → List ℕ
+mesh p d o [] = []
+mesh p d o (n ∷ ns) = tube p d n o ++ mesh p d (o + vertices p d n) ns
+
+-- ---- other vertex numbers (02 §12: 'corners and starts are renumbered'): what was numbered from o on is numbered from q on
+unfoldable pub renumbered : ℕ → ℕ → List ℕ → List ℕ
+renumbered o q l = map (λ c. c - o + q) l
