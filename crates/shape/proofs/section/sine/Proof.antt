@@ -1,0 +1,32 @@
+use mathlib.Core.Path.{refl}
+use mathlib.Core.Bool.{Bool, not}
+use Prim.Native.Nat.{ℕ}
+use lib.Ieee.{binary32, nanBits}
+use Rattle.shape.specs.Ring.{sinBits, sinAt}
+use Rattle.shape.proofs.Table.{at, number}
+use borrow.Author.Needs.{needs}
+use Rattle.shape.proofs.section.sine.Statement.{statement}
+use Rattle.shape.proofs.section.sine.Tie as tie
+use Rattle.shape.proofs.section.sine.Reads as reads
+use Rattle.shape.proofs.section.sine.Lts as lts
+
+-- src/section.rt:46:20
+mul-result : tie.Need-mul-result
+mul-result c = search needs
+
+-- src/section.rt:46:20
+array-read-result : tie.Need-array-read-result
+array-read-result c = search needs
+
+-- src/section.rt:46:5
+float-from-bits-result : tie.Need-float-from-bits-result
+unfolding number sinBits nanBits
+float-from-bits-result c = at number sinBits tt (c .args .k) (search needs)
+
+-- src/section.rt:42:1
+returns : tie.Need-returns
+unfolding sinAt sinBits
+returns c = refl
+
+pub sine-spec : {M : Type 1} → statement M
+sine-spec = tie.close (tie.spec mul-result array-read-result float-from-bits-result returns)

@@ -1,0 +1,3 @@
+pub mod Spline
+pub mod Guide
+pub mod Ring
