@@ -1,14 +1,13 @@
 -- What the counts of edges say of the corners, and the other way round. Assumes nothing.
 use mathlib.Core.Path.{_≡_, refl, sym, ap, _∙_, subst, subst₃}
 use mathlib.Core.Logic.{_⊎_, inl, inr, ⊎-elim, _≢_}
-use mathlib.Core.List.{List, [], _∷_, _++_}
-use Prim.Native.Nat.{ℕ, zero, suc, _+_, _*_, _-_, _≤_, _<_, min, max}
+use mathlib.Core.List.{List, [], _∷_}
+use Prim.Native.Nat.{ℕ, zero, suc, _+_, _*_, _-_, _≤_, _<_}
 use native.Mathlib.Nat.{eq-zero-or-pos}
 use native.Mathlib.Omega.{arith}
 use lib.ListN.{length, getD}
-use Rattle.edges.specs.Sound.{edges, is, count, occurs, CornersIn, Each, CornersDiffer, EdgesPaired, VerticesUsed, Sound}
+use Rattle.edges.specs.Sound.{edges, is, occurs, Each, CornersDiffer, Sound}
 use Rattle.edges.proofs.Count.{is-or, is-same}
-use Rattle.edges.proofs.Piece.{Lies, Piece}
 use Rattle.edges.proofs.Tube.{Closed}
 
 -- each corner starts an edge

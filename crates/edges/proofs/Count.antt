@@ -1,17 +1,16 @@
 -- Counts of edges. Assumes nothing.
-use mathlib.Core.Path.{_≡_, refl, sym, ap, ap₂, _∙_, subst}
+use mathlib.Core.Path.{_≡_, refl, ap, _∙_}
 use mathlib.Core.Logic.{_⊎_, inl, inr}
 use mathlib.Core.List.{List, [], _∷_, _++_}
 use mathlib.Core.Bool.{Bool, true, false, _&&_, cond}
-use Prim.Native.Nat.{ℕ, zero, suc, _+_, _*_, _-_, _%_, _≤_, _<_}
-use native.Mathlib.Nat.{eq-zero-or-pos, eq-or-lt-of-le, mod-eq-of-lt, mod-self, le-of-suc-le-suc}
-use native.Mathlib.Numerals.{add-one}
+use Prim.Native.Nat.{ℕ, zero, suc, _+_, _*_, _-_, _≤_, _<_}
+use native.Mathlib.Nat.{eq-zero-or-pos, eq-or-lt-of-le, mod-eq-of-lt, mod-self}
 use native.Mathlib.Omega.{arith}
 use lib.Dec.{T, eqb, eqb→eq, eqb-refl}
-use lib.ListN.{length, getD, length-append}
+use lib.ListN.{length}
 use Rattle.buffers.specs.Put.{upto}
 use Rattle.buffers.proofs.Puts.{length-upto}
-use Rattle.edges.specs.Sound.{Edge, edges, is, count, occurs}
+use Rattle.edges.specs.Sound.{edges, is, occurs}
 use Rattle.edges.specs.Tube.{next}
 
 -- ---- one edge against another

@@ -1,12 +1,11 @@
 -- Families of edges: those that go from a + k to g k, for each k below n. Assumes nothing.
-use mathlib.Core.Path.{_≡_, refl, sym, ap, _∙_, subst}
-use mathlib.Core.Logic.{_⊎_, inl, inr, _≢_}
-use Prim.Native.Nat.{ℕ, zero, suc, _+_, _*_, _-_, _≤_, _<_, min, max}
-use native.Mathlib.Nat.{eq-zero-or-pos, eq-or-lt-of-le}
+use mathlib.Core.Path.{_≡_, refl}
+use mathlib.Core.Logic.{_⊎_, inl, inr}
+use Prim.Native.Nat.{ℕ, zero, suc, _+_, _≤_, _<_}
+use native.Mathlib.Nat.{eq-or-lt-of-le}
 use native.Mathlib.Omega.{arith}
 use Rattle.edges.specs.Sound.{is}
-use Rattle.edges.specs.Tube.{next}
-use Rattle.edges.proofs.Count.{is-or, is-same, sum, next-cases, next-lt}
+use Rattle.edges.proofs.Count.{is-or, is-same, sum}
 
 -- how many edges of the family go from x to y
 abbrev pub family : ℕ → (ℕ → ℕ) → ℕ → ℕ → ℕ → ℕ

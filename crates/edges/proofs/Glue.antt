@@ -3,15 +3,15 @@
 use mathlib.Core.Path.{_≡_, refl, _∙_}
 use mathlib.Core.Logic.{⊎-elim}
 use mathlib.Core.List.{List, [], _++_}
-use Prim.Native.Nat.{ℕ, _+_, _*_, _-_, _≤_, _<_, min, max}
+use Prim.Native.Nat.{ℕ, _+_, _-_, _≤_, _<_}
 use native.Mathlib.Nat.{eq-zero-or-pos}
 use native.Mathlib.Omega.{arith}
-use lib.ListN.{length, getD, length-append, List·getD-append}
+use lib.ListN.{length, length-append, List·getD-append}
 use lib.Seq.{getD-append-add}
-use Rattle.edges.specs.Sound.{occurs, CornersIn, EdgesPaired, Sound, Part}
+use Rattle.edges.specs.Sound.{occurs, EdgesPaired, Sound, Part}
 use Rattle.edges.proofs.Count.{occurs-append}
-use Rattle.edges.proofs.Piece.{Lies, Piece, join}
-use Rattle.edges.proofs.Tube.{Closed, lt-or-le}
+use Rattle.edges.proofs.Piece.{join}
+use Rattle.edges.proofs.Tube.{lt-or-le}
 use Rattle.edges.proofs.Corners.{sound, closed, ends}
 
 -- two sound lists, one after the other, over vertices one after the other

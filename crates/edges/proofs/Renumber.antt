@@ -1,14 +1,12 @@
 -- Other vertex numbers keep every rule. Assumes nothing.
-use mathlib.Core.Path.{_≡_, refl, sym, ap, ap₂, _∙_, subst, subst₃}
-use mathlib.Core.Logic.{_⊎_, inl, inr, ⊎-elim, _≢_}
-use mathlib.Core.List.{List, [], _∷_, _++_, map}
+use mathlib.Core.Path.{_≡_, refl, sym, ap, _∙_}
+use mathlib.Core.List.{List, [], _∷_, map}
 use Prim.Native.Nat.{ℕ, zero, suc, _+_, _*_, _-_, _≤_, _<_}
-use native.Mathlib.Nat.{eq-zero-or-pos}
 use native.Mathlib.Omega.{arith}
 use lib.ListN.{length, getD, length-map}
-use Rattle.edges.specs.Sound.{Edge, edges, CornersIn, CornersDiffer, EdgesPaired, VerticesUsed, Sound}
+use Rattle.edges.specs.Sound.{Edge, edges, CornersIn, EdgesPaired, Sound}
 use Rattle.edges.specs.Tube.{renumbered}
-use Rattle.edges.proofs.Owned.{edge, EdgesOwned, length-edges, owned, paired}
+use Rattle.edges.proofs.Owned.{edge, length-edges, owned, paired}
 
 map-at : (f : ℕ → ℕ) (l : List ℕ) (i : ℕ) → i < length l → getD (map f l) i 0 ≡ f (getD l i 0)
 map-at f [] i h = absurd (omega arith)

@@ -2,13 +2,13 @@
 use mathlib.Core.Path.{_≡_, refl, sym, ap, ap₂, _∙_}
 use mathlib.Core.Bool.{Bool, true, false}
 use mathlib.Core.List.{List, [], _∷_, _++_, map, map-append}
-use Prim.Native.Nat.{ℕ, zero, suc, _+_, _*_, _-_, _<_, _≤_}
+use Prim.Native.Nat.{ℕ, zero, suc, _+_, _*_, _-_}
 use native.Mathlib.Nat.{add-assoc}
 use native.Mathlib.Omega.{arith}
 use borrow.Author.Tests.{lt-ltb, le-ltb}
 use mathlib.Core.Logic.{⊎-elim}
 use Rattle.buffers.specs.Put.{upto}
-use Rattle.edges.specs.Tube.{next, capSide, bandSide, cap, band, ring, bandAt, startCentre, endCentre, stack, tube, vertices, mesh, renumbered}
+use Rattle.edges.specs.Tube.{capSide, bandSide, cap, band, ring, bandAt, startCentre, endCentre, stack, tube, vertices, mesh, renumbered}
 use Rattle.edges.proofs.Tube.{lt-or-le}
 
 map-upto : (h : ℕ → ℕ) (f g : ℕ → List ℕ) (n : ℕ) → ((k : ℕ) → map h (f k) ≡ g k) → map h (upto f n) ≡ upto g n

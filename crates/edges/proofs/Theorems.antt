@@ -1,15 +1,15 @@
 -- What is proved of tubes and of meshes of tubes, over p sides (three or more), d divisions and n residues. Assumes nothing.
-use mathlib.Core.Path.{_≡_, refl, sym, ap, ap₂, _∙_, subst}
+use mathlib.Core.Path.{_≡_, refl, sym, ap, _∙_, subst}
 use mathlib.Core.Logic.{⊎-elim}
-use mathlib.Core.List.{List, [], _∷_, _++_, append-assoc, append-nil, map, map-append}
-use Prim.Native.Nat.{ℕ, zero, suc, _+_, _*_, _-_, _≤_, _<_}
+use mathlib.Core.List.{List, [], _∷_, _++_, append-assoc}
+use Prim.Native.Nat.{ℕ, _+_, _*_, _-_, _≤_, _<_}
 use native.Mathlib.Nat.{add-zero, mul-assoc}
 use native.Mathlib.Omega.{arith}
 use borrow.Author.Tests.{lt-ltb, le-ltb}
 use lib.ListN.{length, take, drop, length-append}
 use lib.Seq.{take-append-seam, drop-at}
-use Rattle.edges.specs.Sound.{occurs, CornersIn, CornersDiffer, EdgesPaired, VerticesUsed, Sound, Part}
-use Rattle.edges.specs.Tube.{given, rings, vertices, triangles, stack, tube, mesh, meshVertices, meshTriangles, renumbered}
+use Rattle.edges.specs.Sound.{occurs, EdgesPaired, Sound, Part}
+use Rattle.edges.specs.Tube.{rings, vertices, triangles, stack, tube, mesh, meshVertices, meshTriangles, renumbered}
 use Rattle.edges.proofs.Tube.{Closed, lt-or-le, closed-stack, stack-size}
 use Rattle.edges.proofs.Corners.{sound}
 use Rattle.edges.proofs.Glue.{glue, empty-sound, glue-paired, unglue, joined}

@@ -1,18 +1,18 @@
 -- The surface of a tube: it grows ring by ring, and is closed at its end. Assumes nothing.
-use mathlib.Core.Path.{_≡_, refl, sym, ap, _∙_, subst}
+use mathlib.Core.Path.{_≡_, refl, sym, _∙_}
 use mathlib.Core.Logic.{_⊎_, inl, inr, ⊎-elim}
 use mathlib.Core.Bool.{Bool, true, false}
-use mathlib.Core.List.{List, [], _∷_, _++_}
-use Prim.Native.Nat.{ℕ, zero, suc, _+_, _*_, _-_, _≤_, _<_, min, max}
+use mathlib.Core.List.{List, _++_}
+use Prim.Native.Nat.{ℕ, zero, suc, _+_, _*_, _-_, _≤_, _<_}
 use native.Mathlib.Nat.{eq-zero-or-pos, eq-or-lt-of-le, le-of-sub-eq-zero, sub-pos-iff-lt}
 use native.Mathlib.Omega.{arith}
 use lib.ListN.{length, length-append}
 use Rattle.buffers.specs.Put.{upto}
-use Rattle.edges.specs.Sound.{is, count, occurs}
+use Rattle.edges.specs.Sound.{is, occurs}
 use Rattle.edges.specs.Tube.{next, capSide, bandSide, cap, band, ring, bandAt, startCentre, endCentre, stack}
-use Rattle.edges.proofs.Count.{is-flip, sum, sum-cong, sum-add, sum-add₃, around, next-lt, occurs-append, occurs-upto, upto-size}
-use Rattle.edges.proofs.Family.{family, family-hit}
-use Rattle.edges.proofs.Piece.{Lies, Piece, join, loop, spokes, straight, slant, loop-piece, spokes-piece, straight-piece, slant-piece, slant-straight}
+use Rattle.edges.proofs.Count.{is-flip, sum-cong, sum-add, sum-add₃, around, occurs-append, occurs-upto, upto-size}
+use Rattle.edges.proofs.Family.{family-hit}
+use Rattle.edges.proofs.Piece.{Piece, join, loop, spokes, straight, slant, loop-piece, spokes-piece, straight-piece, slant-piece, slant-straight}
 
 -- ---- sizes
 

@@ -1,0 +1,91 @@
+-- Assumes nothing.
+use mathlib.Core.Path.{_≡_, refl, _∙_}
+use Prim.Native.Nat.{_+_, _*_, _-_, _≤_}
+use native.Mathlib.Omega.{arith}
+use Rattle.buffers.specs.Put.{put, upto}
+use Rattle.buffers.proofs.Puts.{next, turn, kept}
+use Rattle.edges.specs.Tube.{bandSide, band}
+use Rattle.edges.specs.Tube as tube
+use Rattle.stitch.proofs.append_ring_and_stitch.Statement.{statement}
+use Rattle.stitch.proofs.append_ring_and_stitch.Tie as tie
+
+abbrev Inv-loop : tie.InvT-loop
+Inv-loop triangles₀ at a b k₀ o₀ triangles k o = (k ≤ 8) × (o ≡ at + k * 6) × (triangles ≡ put triangles₀ at (upto (bandSide 8 a b) k))
+
+abbrev μ-loop : tie.MeasureT-loop
+μ-loop triangles₀ at a b k₀ o₀ triangles k o = 8 - k
+
+loop-holds : tie.Need-loop-holds Inv-loop μ-loop
+unfolding put upto
+loop-holds c = (omega arith, omega arith, refl)
+
+add-k1 : tie.Need-add-k1 Inv-loop μ-loop
+add-k1 c = omega arith
+
+add-a0 : tie.Need-add-a0 Inv-loop μ-loop
+add-a0 c = omega arith
+
+add-a1 : tie.Need-add-a1 Inv-loop μ-loop
+add-a1 c = omega arith
+
+add-b0 : tie.Need-add-b0 Inv-loop μ-loop
+add-b0 c = omega arith
+
+add-b1 : tie.Need-add-b1 Inv-loop μ-loop
+add-b1 c = omega arith
+
+put-words-requires : tie.Need-put-words-requires Inv-loop μ-loop
+put-words-requires c κs = omega (arith, kept _ _ _ (c .before .before .loop .inv .2))
+
+add-put-words : tie.Need-add-put-words Inv-loop μ-loop
+add-put-words c = omega (arith, kept _ _ _ (c .before .before .before .before .before .before .loop .inv .2))
+
+put-words-requires-2 : tie.Need-put-words-requires-2 Inv-loop μ-loop
+put-words-requires-2 c κs = omega (arith, kept _ _ _ (c .before .before .before .put-words .ensures), kept _ _ _ (c .before .before .before .before .before .before .loop .inv .2))
+
+add-o : tie.Need-add-o Inv-loop μ-loop
+add-o c = omega (arith, kept _ _ _ (c .before .before .before .before .before .before .before .before .before .loop .inv .2))
+
+add-k : tie.Need-add-k Inv-loop μ-loop
+add-k c = omega arith
+
+loop-less : tie.Need-loop-less Inv-loop μ-loop
+loop-less c = omega arith
+
+loop-again : tie.Need-loop-again Inv-loop μ-loop
+unfolding tube.next
+loop-again c = (
+  omega arith,
+  omega arith,
+  turn (bandSide 8 (c .before .before .before .before .before .before .before .before .before .before .before .args .a) (c .before .before .before .before .before .before .before .before .before .before .before .args .b)) 6 (λ k. refl) _ _ _ (c .before .before .before .before .before .before .before .before .before .loop .k) (next _ _ (c .before .before .before .before .before .before .before .before .before .loop .o) _ _ _ (c .before .before .put-words2 .ensures) (c .before .before .before .before .before .before .put-words .ensures) refl) (c .before .before .before .before .before .before .before .before .before .loop .inv .2) (c .before .before .before .before .before .before .before .before .before .loop .inv .1),
+)
+
+same-length : tie.Need-same-length Inv-loop μ-loop
+same-length c = kept _ _ _ (c .before .loop .inv .2)
+
+returns : tie.Need-returns Inv-loop μ-loop
+unfolding band
+returns c = let e : c .before .loop .k ≡ 8 = omega arith in
+    c .before .loop .inv .2 ∙ rw e
+
+pub append-ring-and-stitch-spec : {M : Type 1} → statement M
+append-ring-and-stitch-spec =
+    tie.close
+    (tie.spec
+    Inv-loop
+    μ-loop
+    loop-holds
+    add-k1
+    add-a0
+    add-a1
+    add-b0
+    add-b1
+    put-words-requires
+    add-put-words
+    put-words-requires-2
+    add-o
+    add-k
+    loop-less
+    loop-again
+    same-length
+    returns)

@@ -1,0 +1,62 @@
+-- Assumes nothing.
+use mathlib.Core.Path.{_≡_, refl, _∙_}
+use Prim.Native.Nat.{_+_, _*_, _-_, _≤_}
+use native.Mathlib.Omega.{arith}
+use Rattle.buffers.specs.Put.{put, upto}
+use Rattle.buffers.proofs.Puts.{turn, kept}
+use Rattle.edges.specs.Tube.{capSide, cap}
+use Rattle.edges.proofs.Tube.{cap-side-size}
+use Rattle.stitch.proofs.emit_cap.Statement.{statement}
+use Rattle.stitch.proofs.emit_cap.Tie as tie
+
+abbrev Inv-loop : tie.InvT-loop
+Inv-loop triangles₀ at center base inward k₀ o₀ triangles k o = (k ≤ 8) × (o ≡ at + k * 3) × (triangles ≡ put triangles₀ at (upto (capSide 8 inward center base) k))
+
+abbrev μ-loop : tie.MeasureT-loop
+μ-loop triangles₀ at center base inward k₀ o₀ triangles k o = 8 - k
+
+loop-holds : tie.Need-loop-holds Inv-loop μ-loop
+unfolding put upto
+loop-holds c = (omega arith, omega arith, refl)
+
+cap-side-requires : tie.Need-cap-side-requires Inv-loop μ-loop
+cap-side-requires c κs = (omega (arith, kept _ _ _ (c .before .before .loop .inv .2)), omega arith)
+
+add-o : tie.Need-add-o Inv-loop μ-loop
+add-o c = omega (arith, kept _ _ _ (c .before .before .before .before .before .loop .inv .2))
+
+add-k : tie.Need-add-k Inv-loop μ-loop
+add-k c = omega arith
+
+loop-less : tie.Need-loop-less Inv-loop μ-loop
+loop-less c = omega arith
+
+loop-again : tie.Need-loop-again Inv-loop μ-loop
+loop-again c = (
+  omega arith,
+  omega arith,
+  turn (capSide 8 (c .before .before .before .before .before .before .before .args .inward) (c .before .before .before .before .before .before .before .args .center) (c .before .before .before .before .before .before .before .args .base)) 3 (cap-side-size 8 (c .before .before .before .before .before .before .before .args .inward) (c .before .before .before .before .before .before .before .args .center) (c .before .before .before .before .before .before .before .args .base)) _ _ _ (c .before .before .before .before .before .loop .k) (c .before .before .cap-side .ensures) (c .before .before .before .before .before .loop .inv .2) (c .before .before .before .before .before .loop .inv .1),
+)
+
+same-length : tie.Need-same-length Inv-loop μ-loop
+same-length c = kept _ _ _ (c .before .loop .inv .2)
+
+returns : tie.Need-returns Inv-loop μ-loop
+unfolding cap
+returns c = let e : c .before .loop .k ≡ 8 = omega arith in
+    c .before .loop .inv .2 ∙ rw e
+
+pub emit-cap-spec : {M : Type 1} → statement M
+emit-cap-spec =
+    tie.close
+    (tie.spec
+    Inv-loop
+    μ-loop
+    loop-holds
+    cap-side-requires
+    add-o
+    add-k
+    loop-less
+    loop-again
+    same-length
+    returns)

@@ -1,0 +1,104 @@
+-- Assumes nothing.
+use mathlib.Core.Path.{_≡_, refl, sym, ap, _∙_}
+use Prim.Native.Nat.{suc, _+_, _*_, _-_, _≤_}
+use native.Mathlib.Numerals.{add-one}
+use native.Mathlib.Omega.{arith}
+use borrow.Author.Needs.{needs}
+use Rattle.buffers.specs.Put.{put, upto}
+use Rattle.buffers.proofs.Puts.{turn, kept}
+use Rattle.edges.specs.Tube.{ring, bandAt}
+use Rattle.edges.proofs.Tube.{band-size}
+use Rattle.edges.proofs.Theorems.{tube-is}
+use Rattle.stitch.proofs.Assembly.{assembled}
+use Rattle.stitch.proofs.tube_triangles.Statement.{statement}
+use Rattle.stitch.proofs.tube_triangles.Tie as tie
+
+abbrev Inv-loop : tie.InvT-loop
+Inv-loop triangles₀ at first n bands j₀ o₀ a₀ b₀ triangles j o a b = (j ≤ bands) × (o ≡ at + 24 + j * 48) × (a ≡ ring 8 first j) × (b ≡ ring 8 first (suc j)) × (a + 8 ≤ b) × (b ≡ first + (8 * j + 9))
+    × (triangles ≡ put triangles₀ (at + 24) (upto (bandAt 8 first) j))
+
+abbrev μ-loop : tie.MeasureT-loop
+μ-loop triangles₀ at first n bands j₀ o₀ a₀ b₀ triangles j o a b = bands - j
+
+sub-bands : tie.Need-sub-bands Inv-loop μ-loop
+sub-bands c = search needs
+
+mul-bands : tie.Need-mul-bands Inv-loop μ-loop
+mul-bands c = search needs
+
+add-emit-cap : tie.Need-add-emit-cap Inv-loop μ-loop
+add-emit-cap c = search needs
+
+emit-cap-requires : tie.Need-emit-cap-requires Inv-loop μ-loop
+emit-cap-requires c κs = search needs
+
+add-o : tie.Need-add-o Inv-loop μ-loop
+add-o c = search needs
+
+add-b : tie.Need-add-b Inv-loop μ-loop
+add-b c = search needs
+
+loop-holds : tie.Need-loop-holds Inv-loop μ-loop
+unfolding put upto ring
+loop-holds c = (omega arith, omega arith, refl, omega arith, omega arith, omega arith, refl)
+
+append-ring-and-stitch-requires : tie.Need-append-ring-and-stitch-requires Inv-loop μ-loop
+append-ring-and-stitch-requires c κs = (omega (arith, kept _ _ _ (c .before .before .loop .inv .6), kept _ _ _ (c .before .before .before .before .before .emit-cap .ensures)), omega arith)
+
+add-o-2 : tie.Need-add-o-2 Inv-loop μ-loop
+add-o-2 c = omega (arith, kept _ _ _ (c .before .before .before .before .before .loop .inv .6), kept _ _ _ (c .before .before .before .before .before .before .before .before .emit-cap .ensures))
+
+add-b-2 : tie.Need-add-b-2 Inv-loop μ-loop
+add-b-2 c = search needs
+
+add-j : tie.Need-add-j Inv-loop μ-loop
+add-j c = search needs
+
+loop-less : tie.Need-loop-less Inv-loop μ-loop
+loop-less c = search needs
+
+loop-again : tie.Need-loop-again Inv-loop μ-loop
+unfolding ring
+loop-again c = (
+  omega arith,
+  omega arith,
+  c .before .before .before .before .before .loop .inv .3 ∙ ap (ring 8 (c .before .before .before .before .before .before .before .before .before .before .before .args .first)) (sym (add-one (c .before .before .before .before .before .loop .j))),
+  omega arith,
+  omega arith,
+  omega arith,
+  turn (bandAt 8 (c .before .before .before .before .before .before .before .before .before .before .before .args .first)) 48 (λ j. band-size 8 _ _) _ _ _ (c .before .before .before .before .before .loop .j) (c .before .before .append-ring-and-stitch .ensures ∙ rw (c .before .before .before .before .before .loop .inv .2, c .before .before .before .before .before .loop .inv .3)) (c .before .before .before .before .before .loop .inv .6) (c .before .before .before .before .before .loop .inv .1),
+)
+
+emit-cap-requires-2 : tie.Need-emit-cap-requires-2 Inv-loop μ-loop
+emit-cap-requires-2 c κs = (omega (arith, kept _ _ _ (c .before .before .loop .inv .6), kept _ _ _ (c .before .before .before .before .before .emit-cap .ensures)), omega arith)
+
+same-length : tie.Need-same-length Inv-loop μ-loop
+same-length c = kept _ _ _ (c .before .before .emit-cap2 .ensures) ∙ kept _ _ _ (c .before .before .before .before .before .loop .inv .6) ∙ kept _ _ _ (c .before .before .before .before .before .before .before .before .emit-cap .ensures)
+
+returns : tie.Need-returns Inv-loop μ-loop
+returns c = let e : c .before .before .before .before .before .loop .j ≡ 8 * (c .before .before .before .before .before .before .before .before .before .before .before .args .n - 1) = omega arith in
+    assembled _ _ _ (c .before .before .before .before .before .before .before .before .before .before .before .args .at) (c .before .before .before .before .before .before .before .before .before .before .before .args .first) _ _ _ _ _ (c .before .before .before .before .before .before .before .before .emit-cap .ensures) (c .before .before .before .before .before .loop .inv .6) (c .before .before .emit-cap2 .ensures) refl (omega arith) (omega arith) (c .before .before .before .before .before .loop .inv .2)
+    ∙ rw e (ap (put _ (c .before .before .before .before .before .before .before .before .before .before .before .args .at)) (sym (tube-is 8 8 (c .before .before .before .before .before .before .before .before .before .before .before .args .n) (c .before .before .before .before .before .before .before .before .before .before .before .args .first) (omega arith))))
+
+pub tube-triangles-spec : {M : Type 1} → statement M
+tube-triangles-spec =
+    tie.close
+    (tie.spec
+    Inv-loop
+    μ-loop
+    sub-bands
+    mul-bands
+    add-emit-cap
+    emit-cap-requires
+    add-o
+    add-b
+    loop-holds
+    append-ring-and-stitch-requires
+    add-o-2
+    add-b-2
+    add-j
+    loop-less
+    loop-again
+    emit-cap-requires-2
+    same-length
+    returns)

@@ -1,0 +1,83 @@
+// Writes the triangles of a tube into a lent buffer, in the Rust's order: start cap inward, bands, end cap.
+ghost use mathlib.Core.Path.{_≡_};
+ghost use mathlib.Core.List.{[], _∷_};
+ghost use Prim.Native.Nat.{_+_, _-_, _*_, _<_, _≤_};
+ghost use lib.ListN.{length};
+ghost use Rattle.buffers.specs.Put.{put};
+ghost use Rattle.edges.specs.Tube.{capSide, cap, bandSide, band, tube};
+use buffers::put_words;
+
+// A cap's triangle at one side: this side's vertex i0 and the next side's i1, the other way round where the cap is inward.
+fn cap_side(triangles: &mut [u32], at: usize, center: u32, base: u32, k: u32, inward: bool)
+    requires { ⌜ at + 3 ≤ length (now triangles) ⌝ }
+    requires { ⌜ (k < 8) × (base + 8 ≤ 4294967296) ⌝ }
+    ensures { λ _. ⌜ now (triangles .exit) ≡ put (now (triangles .entry)) at (capSide 8 inward center base k) ⌝ }
+{
+    let i0 = base + k;
+    let i1 = base + (k + 1) % 8;
+    if inward {
+        put_words(triangles, at, center, i1, i0);
+        return;
+    }
+    put_words(triangles, at, center, i0, i1);
+}
+
+// The cap on the ring that begins at base.
+fn emit_cap(triangles: &mut [u32], at: usize, center: u32, base: u32, inward: bool)
+    requires { ⌜ at + 24 ≤ length (now triangles) ⌝ }
+    requires { ⌜ base + 8 ≤ 4294967296 ⌝ }
+    ensures { λ _. ⌜ now (triangles .exit) ≡ put (now (triangles .entry)) at (cap 8 inward center base) ⌝ }
+{
+    let mut k: u32 = 0;
+    let mut o = at;
+    while k < 8 {
+        cap_side(triangles, o, center, base, k, inward);
+        o += 3;
+        k += 1;
+    }
+}
+
+// The triangles that one more ring brings: the band between ring a and ring b. (The Rust's function of this name appends the ring's vertices
+// too: here those are written apart.)
+fn append_ring_and_stitch(triangles: &mut [u32], at: usize, a: u32, b: u32)
+    requires { ⌜ at + 48 ≤ length (now triangles) ⌝ }
+    requires { ⌜ (a + 8 ≤ 4294967296) × (b + 8 ≤ 4294967296) ⌝ }
+    ensures { λ _. ⌜ now (triangles .exit) ≡ put (now (triangles .entry)) at (band 8 a b) ⌝ }
+{
+    let mut k: u32 = 0;
+    let mut o = at;
+    while k < 8 {
+        let k1 = (k + 1) % 8;
+        let a0 = a + k;
+        let a1 = a + k1;
+        let b0 = b + k;
+        let b1 = b + k1;
+        put_words(triangles, o, a0, b1, b0);
+        put_words(triangles, o + 3, a0, a1, b1);
+        o += 6;
+        k += 1;
+    }
+}
+
+// The triangles of a tube of n residues whose vertices are numbered from first on, 128n - 112 of them, from place at on. It has 64n - 54
+// vertices, within 01's limit of 1,048,576.
+pub fn tube_triangles(triangles: &mut [u32], at: usize, first: u32, n: u32)
+    requires { ⌜ at + 3 * (128 * n - 112) ≤ length (now triangles) ⌝ }
+    requires { ⌜ (2 ≤ n) × (first + (64 * n - 54) ≤ 1048576) ⌝ }
+    ensures { λ _. ⌜ now (triangles .exit) ≡ put (now (triangles .entry)) at (tube 8 8 n first) ⌝ }
+{
+    let bands = 8 * (n - 1);
+    emit_cap(triangles, at, first + 8, first, true);
+    let mut j: u32 = 0;
+    let mut o = at + 24;
+    let mut a = first;
+    let mut b = first + 9;
+    while j < bands {
+        append_ring_and_stitch(triangles, o, a, b);
+        o += 48;
+        a = b;
+        b += 8;
+        j += 1;
+    }
+    emit_cap(triangles, o, b, a, false);
+}
