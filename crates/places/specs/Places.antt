@@ -1,0 +1,28 @@
+-- Where an atom stands, and whether a step between two atoms is too long for one tube. Atoms are counted from 1 here, as in the residue tables, where 0 is none.
+use Prim.Native.Nat.{ℕ, _+_, _-_}
+use mathlib.Core.List.{List}
+use mathlib.Core.Bool.{Bool}
+use lib.Ieee.{Float, binary32, binary64, ofBits, lt}
+use Rattle.floats.specs.Floats.{narrowed}
+use Rattle.vectors.specs.declared.Vec3.{Vec3}
+use Rattle.vectors.specs.Vec.{vec, vsub, vlength, lit}
+use Rattle.job.specs.Bytes.{u64At}
+use Rattle.job.specs.Layout.{atomAt}
+use Rattle.job.specs.declared.Head.{Head}
+
+-- 01, 'Floats': 'f64 to f32 is IEEE 754 nearest-even'
+unfoldable pub coordinate : List ℕ → ℕ → Float
+unfolding narrowed
+coordinate s at = narrowed binary32 (ofBits binary64 (u64At s at))
+
+-- 01, 'Job bytes': 'x, y, z as f64 bits'
+unfoldable pub placeOf : List ℕ → Head → ℕ → Vec3
+placeOf s h a = vec (coordinate s (atomAt h (a - 1) + 9)) (coordinate s (atomAt h (a - 1) + 17)) (coordinate s (atomAt h (a - 1) + 25))
+
+-- 01, 'Tubes': 'cut .. where the step is greater than 5.0'
+unfoldable pub far : Vec3 → Vec3 → Bool
+far p q = lt (lit 0x40A00000) (vlength (vsub q p))
+
+-- the same between two atoms of a job
+unfoldable pub farOf : List ℕ → Head → ℕ → ℕ → Bool
+farOf s h a b = far (placeOf s h a) (placeOf s h b)
