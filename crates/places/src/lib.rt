@@ -1,7 +1,6 @@
 // Where an atom stands, and whether a step is too long for one tube.
 use job::Head;
 use vectors::Vec3;
-
 ghost use mathlib.Core.Path.{_≡_};
 ghost use Prim.Native.Nat.{ℕ, _≤_, _<_};
 ghost use lib.ListN.{length};
