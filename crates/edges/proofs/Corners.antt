@@ -8,7 +8,7 @@ use native.Mathlib.Omega.{arith}
 use lib.ListN.{length, getD}
 use Rattle.edges.specs.Sound.{edges, is, occurs, Each, CornersDiffer, Sound}
 use Rattle.edges.proofs.Count.{is-or, is-same}
-use Rattle.edges.proofs.Tube.{Closed}
+use Rattle.edges.proofs.Stack.{Closed}
 
 -- each corner starts an edge
 pub starts : (l : List ℕ) (n i : ℕ) → length l ≡ 3 * n → i < length l → (y : ℕ) × (0 < occurs (getD l i 0) y l)

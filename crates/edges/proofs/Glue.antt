@@ -1,22 +1,41 @@
 -- Triangle lists one after the other, over vertices one after the other: the rules hold of the whole where they hold of the parts, and
 -- the edge rule of the parts where it holds of the whole. Assumes nothing.
-use mathlib.Core.Path.{_≡_, refl, _∙_}
+use mathlib.Core.Path.{_≡_, refl, _∙_, subst₂}
 use mathlib.Core.Logic.{⊎-elim}
 use mathlib.Core.List.{List, [], _++_}
-use Prim.Native.Nat.{ℕ, _+_, _-_, _≤_, _<_}
+use Prim.Native.Nat.{ℕ, suc, _+_, _*_, _-_, _≤_, _<_}
 use native.Mathlib.Nat.{eq-zero-or-pos}
 use native.Mathlib.Omega.{arith}
 use lib.ListN.{length, length-append, List·getD-append}
 use lib.Seq.{getD-append-add}
 use Rattle.edges.specs.Sound.{occurs, EdgesPaired, Sound, Part}
+use Rattle.edges.specs.Tube.{stack}
 use Rattle.edges.proofs.Count.{occurs-append}
 use Rattle.edges.proofs.Piece.{join}
-use Rattle.edges.proofs.Tube.{lt-or-le}
+use Rattle.edges.proofs.Stack.{lt-or-le, stack-size, closed-stack}
 use Rattle.edges.proofs.Corners.{sound, closed, ends}
 
--- two sound lists, one after the other, over vertices one after the other
-pub glue : (o v w t s : ℕ) (l r : List ℕ) → o ≤ v → v ≤ w → Sound o v t l → Sound v w s r → Sound o w (t + s) (l ++ r)
-glue o v w t s l r ov vw a b =
+-- the same vertices and triangles, counted another way
+pub recount : {o v w t s : ℕ} {l : List ℕ} → v ≡ w → t ≡ s → Sound o v t l → Sound o w s l
+recount {o} {l} ev et s = subst₂ (λ (v t : ℕ). Sound o v t l) ev et s
+
+-- nothing is sound over no vertices
+pub empty-sound : (o : ℕ) → Sound o (o + 0) 0 []
+unfolding occurs
+empty-sound o = record {
+  size = refl;
+  within = λ i h. absurd (omega arith);
+  differ = λ t h. absurd (omega arith);
+  paired = λ x y h. absurd (omega arith);
+  used = λ u i h. absurd (omega arith);
+}
+
+pub stack-sound : (p o m : ℕ) → 3 ≤ p → Sound o (o + (p * suc m + 2)) (2 * p * m + 2 * p) (stack p o m)
+stack-sound p o m sides = sound o _ _ (stack p o m) (stack-size p o m) (closed-stack p o sides m)
+
+-- two sound lists, one after the other
+pub glue : (o v w : ℕ) {t s : ℕ} {l r : List ℕ} → o ≤ v → v ≤ w → Sound o v t l → Sound v w s r → Sound o w (t + s) (l ++ r)
+glue o v w {t} {s} {l} {r} ov vw a b =
     let c = closed o v t l a in
     let d = closed v w s r b in
     let both : (x y : ℕ) → occurs x y (l ++ r) ≡ occurs x y l + occurs x y r = λ x y. occurs-append x y t l r (a .size) in
@@ -27,16 +46,6 @@ glue o v w t s l r ov vw a b =
           (λ j. let e = d .used u j h in (e .0, omega (arith, both u (e .0), e .1)))
           (lt-or-le u v);
     })
-
-pub empty-sound : (o : ℕ) → Sound o o 0 []
-unfolding occurs
-empty-sound o = record {
-  size = refl;
-  within = λ i h. absurd (omega arith);
-  differ = λ t h. absurd (omega arith);
-  paired = λ x y h. absurd (omega arith);
-  used = λ u i h. absurd (omega arith);
-}
 
 -- ---- the edge rule by itself, of parts with no vertex in common
 

@@ -3,7 +3,7 @@ pub mod Cases
 pub mod Count
 pub mod Family
 pub mod Piece
-pub mod Tube
+pub mod Stack
 pub mod Corners
 pub mod Glue
 pub mod Owned

@@ -4,7 +4,7 @@ use mathlib.Core.List.{List, [], _∷_, map}
 use Prim.Native.Nat.{ℕ, zero, suc, _+_, _*_, _-_, _≤_, _<_}
 use native.Mathlib.Omega.{arith}
 use lib.ListN.{length, getD, length-map}
-use Rattle.edges.specs.Sound.{Edge, edges, CornersIn, EdgesPaired, Sound}
+use Rattle.edges.specs.Sound.{Edge, edges, CornersIn, EdgesPaired, Sound, Part}
 use Rattle.edges.specs.Tube.{renumbered}
 use Rattle.edges.proofs.Owned.{edge, length-edges, owned, paired}
 
@@ -37,16 +37,19 @@ edge-ends P (a ∷ b ∷ c ∷ l) (suc (suc (suc i))) f h = edge-ends P l i (λ 
 back : (o v q a b : ℕ) → (o ≤ a) × (a < v) → (o ≤ b) × (b < v) → a - o + q ≡ b - o + q → a ≡ b
 back o v q a b h i r = omega arith
 
-pub renumber-size : (o q : ℕ) (l : List ℕ) → length (renumbered o q l) ≡ length l
+renumber-size : (o q : ℕ) (l : List ℕ) → length (renumbered o q l) ≡ length l
 unfolding renumbered
 renumber-size o q l = length-map l (λ c. c - o + q)
 
-pub renumber-within : (o v q : ℕ) (l : List ℕ) → CornersIn o v l → CornersIn q (q + (v - o)) (renumbered o q l)
+renumber-within : (o v q : ℕ) (l : List ℕ) → CornersIn o v l → CornersIn q (q + (v - o)) (renumbered o q l)
 unfolding renumbered
 renumber-within o v q l within i h =
     let f : ℕ → ℕ = λ c. c - o + q in
     let e = length-map l f in
     omega (arith, map-at f l i (omega arith), within i (omega arith))
+
+pub renumber-part : (o v q : ℕ) {t : ℕ} {l : List ℕ} → Part o v t l → Part q (q + (v - o)) t (renumbered o q l)
+renumber-part o v q {l} part = record { size = renumber-size o q l ∙ part .size; within = renumber-within o v q l (part .within) }
 
 pub renumber-paired : (o v q t : ℕ) (l : List ℕ) → length l ≡ 3 * t → CornersIn o v l → EdgesPaired l → EdgesPaired (renumbered o q l)
 unfolding renumbered

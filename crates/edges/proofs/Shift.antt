@@ -9,7 +9,7 @@ use borrow.Author.Tests.{lt-ltb, le-ltb}
 use mathlib.Core.Logic.{⊎-elim}
 use Rattle.buffers.specs.Put.{upto}
 use Rattle.edges.specs.Tube.{capSide, bandSide, cap, band, ring, bandAt, startCentre, endCentre, stack, tube, vertices, mesh, renumbered}
-use Rattle.edges.proofs.Tube.{lt-or-le}
+use Rattle.edges.proofs.Stack.{lt-or-le}
 
 map-upto : (h : ℕ → ℕ) (f g : ℕ → List ℕ) (n : ℕ) → ((k : ℕ) → map h (f k) ≡ g k) → map h (upto f n) ≡ upto g n
 unfolding upto
@@ -37,7 +37,7 @@ module _ (p o : ℕ) where
   unfolding band
   band-up a b = map-upto up (bandSide p a b) (bandSide p (up a) (up b)) p (λ k. simp add-assoc)
 
-  pub stack-up : (m : ℕ) → map up (stack p m 0) ≡ stack p m o
+  pub stack-up : (m : ℕ) → map up (stack p 0 m) ≡ stack p o m
   unfolding stack
   stack-up m =
       let s = cap p true (startCentre p 0) 0 in
@@ -49,7 +49,7 @@ module _ (p o : ℕ) where
       (map-upto up (bandAt p 0) (bandAt p o) m (λ j. band-up (ring p 0 j) (ring p 0 (suc j)) ∙ ap₂ (band p) (ring-up j) (ring-up (suc j)))))
       (cap-up false (endCentre p 0 m) (ring p 0 m) ∙ ap₂ (cap p false) (omega arith) (ring-up m))
 
-  pub tube-up : (d n : ℕ) → map up (tube p d n 0) ≡ tube p d n o
+  pub tube-up : (d n : ℕ) → map up (tube p d 0 n) ≡ tube p d o n
   unfolding tube
   tube-up d n = ⊎-elim (λ h. simp (lt-ltb n 2 h)) (λ h. simp (le-ltb n 2 h) (stack-up (d * (n - 1)))) (lt-or-le n 2)
 
@@ -59,13 +59,13 @@ unfolding renumbered
 renumbered-up o q k [] = refl
 renumbered-up o q k (c ∷ l) = ap₂ (λ (a : ℕ) (m : List ℕ). a ∷ m) (omega arith) (renumbered-up o q k l)
 
-tube-moved : (p d n o q k : ℕ) → renumbered o q (tube p d n (o + k)) ≡ tube p d n (q + k)
-tube-moved p d n o q k = ap (renumbered o q) (sym (tube-up p (o + k) d n)) ∙ renumbered-up o q k (tube p d n 0) ∙ tube-up p (q + k) d n
+tube-moved : (p d n o q k : ℕ) → renumbered o q (tube p d (o + k) n) ≡ tube p d (q + k) n
+tube-moved p d n o q k = ap (renumbered o q) (sym (tube-up p (o + k) d n)) ∙ renumbered-up o q k (tube p d 0 n) ∙ tube-up p (q + k) d n
 
 pub mesh-moved : (p d o q k : ℕ) (ns : List ℕ) → renumbered o q (mesh p d (o + k) ns) ≡ mesh p d (q + k) ns
 unfolding mesh renumbered
 mesh-moved p d o q k [] = refl
 mesh-moved p d o q k (n ∷ ns) =
-    map-append (λ c. c - o + q) (tube p d n (o + k)) (mesh p d (o + k + vertices p d n) ns)
+    map-append (λ c. c - o + q) (tube p d (o + k) n) (mesh p d (o + k + vertices p d n) ns)
     ∙ ap₂ _++_ (tube-moved p d n o q k)
     (ap (λ (v : ℕ). renumbered o q (mesh p d v ns)) (omega arith) ∙ mesh-moved p d o q (k + vertices p d n) ns ∙ ap (λ (v : ℕ). mesh p d v ns) (omega arith))

@@ -5,7 +5,7 @@ use Prim.Native.Nat.{ℕ, _*_}
 use lib.Dec.{eqb}
 use lib.ListN.{length, take, drop}
 use Rattle.buffers.specs.Put.{upto}
-use Rattle.edges.specs.Tube.{given, rings, vertices, triangles, ring, startCentre, endCentre, next, capSide, bandSide, cap, band, bandAt, stack, tube, mesh, meshVertices, meshTriangles}
+use Rattle.edges.specs.Tube.{fromTwo, rings, vertices, triangles, ring, startCentre, endCentre, next, capSide, bandSide, cap, band, bandAt, stack, tube, mesh, meshVertices, meshTriangles}
 
 -- the same numbers in the same order
 unfoldable pub sameWords : List ℕ → List ℕ → Bool
@@ -22,7 +22,7 @@ givesRings n r = eqb (rings 8 n) r
 -- 'n = 1 gives none; n = 2 gives .. 74, 144; n = 3 gives 138, 272': n residues give v vertices and t triangles
 unfoldable pub gives : ℕ → ℕ → ℕ → Bool
 unfolding vertices triangles tube stack
-gives n v t = eqb (vertices 8 8 n) v && eqb (triangles 8 8 n) t && eqb (length (tube 8 8 n 0)) (3 * t)
+gives n v t = eqb (vertices 8 8 n) v && eqb (triangles 8 8 n) t && eqb (length (tube 8 8 0 n)) (3 * t)
 
 -- 'helix (2,3), coils (0,1,2), (3,4,5); V 350, T 688': tubes of these numbers of residues give v vertices and t triangles
 unfoldable pub allGive : List ℕ → ℕ → ℕ → Bool
@@ -32,4 +32,4 @@ allGive ns v t = eqb (meshVertices 8 8 ns) v && eqb (meshTriangles 8 8 ns) t
 -- 'First triangles at n = 2: (8,1,0), eight in all, then (0,10,9), (0,1,10); end cap starts (73,65,66)': these corners stand from triangle t on
 unfoldable pub trianglesFrom : ℕ → ℕ → List ℕ → Bool
 unfolding tube stack cap band upto ring next sameWords
-trianglesFrom n t corners = sameWords (take (length corners) (drop (3 * t) (tube 8 8 n 0))) corners
+trianglesFrom n t corners = sameWords (take (length corners) (drop (3 * t) (tube 8 8 0 n))) corners

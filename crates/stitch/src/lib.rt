@@ -64,7 +64,7 @@ fn append_ring_and_stitch(triangles: &mut [u32], at: usize, a: u32, b: u32)
 pub fn tube_triangles(triangles: &mut [u32], at: usize, first: u32, n: u32)
     requires { ⌜ at + 3 * (128 * n - 112) ≤ length (now triangles) ⌝ }
     requires { ⌜ (2 ≤ n) × (first + (64 * n - 54) ≤ 1048576) ⌝ }
-    ensures { λ _. ⌜ now (triangles .exit) ≡ put (now (triangles .entry)) at (tube 8 8 n first) ⌝ }
+    ensures { λ _. ⌜ now (triangles .exit) ≡ put (now (triangles .entry)) at (tube 8 8 first n) ⌝ }
 {
     let bands = 8 * (n - 1);
     emit_cap(triangles, at, first + 8, first, true);

@@ -6,7 +6,7 @@ use Rattle.edges.proofs.triangle_count.Statement.{statement}
 use Rattle.edges.proofs.triangle_count.Tie as tie
 
 returns : tie.Need-returns
-returns c = sym (no-tube 8 8 (c .before .args .n) 0 (c .if1 .taken) .2)
+returns c = sym (no-tube 8 8 0 (c .before .args .n) (c .if1 .taken) .2)
 
 mul-result : tie.Need-mul-result
 mul-result c = search needs

@@ -54,11 +54,10 @@ loop-less c = omega arith
 
 loop-again : tie.Need-loop-again Inv-loop μ-loop
 unfolding tube.next
-loop-again c = (
-  omega arith,
-  omega arith,
-  turn (bandSide 8 (c .before .before .before .before .before .before .before .before .before .before .before .args .a) (c .before .before .before .before .before .before .before .before .before .before .before .args .b)) 6 (λ k. refl) _ _ _ (c .before .before .before .before .before .before .before .before .before .loop .k) (next _ _ (c .before .before .before .before .before .before .before .before .before .loop .o) _ _ _ (c .before .before .put-words2 .ensures) (c .before .before .before .before .before .before .put-words .ensures) refl) (c .before .before .before .before .before .before .before .before .before .loop .inv .2) (c .before .before .before .before .before .before .before .before .before .loop .inv .1),
-)
+loop-again c = let loop = c .before .before .before .before .before .before .before .before .before .loop in
+    let args = c .before .before .before .before .before .before .before .before .before .before .before .args in
+    let side = next _ _ (loop .o) _ _ _ (c .before .before .put-words2 .ensures) (c .before .before .before .before .before .before .put-words .ensures) refl in
+    (omega arith, omega arith, turn (bandSide 8 (args .a) (args .b)) 6 (λ k. refl) _ _ _ (loop .k) side (loop .inv .2) (loop .inv .1))
 
 same-length : tie.Need-same-length Inv-loop μ-loop
 same-length c = kept _ _ _ (c .before .loop .inv .2)

@@ -5,7 +5,7 @@ use native.Mathlib.Omega.{arith}
 use Rattle.buffers.specs.Put.{put, upto}
 use Rattle.buffers.proofs.Puts.{turn, kept}
 use Rattle.edges.specs.Tube.{capSide, cap}
-use Rattle.edges.proofs.Tube.{cap-side-size}
+use Rattle.edges.proofs.Stack.{cap-side-size}
 use Rattle.stitch.proofs.emit_cap.Statement.{statement}
 use Rattle.stitch.proofs.emit_cap.Tie as tie
 
@@ -32,11 +32,13 @@ loop-less : tie.Need-loop-less Inv-loop μ-loop
 loop-less c = omega arith
 
 loop-again : tie.Need-loop-again Inv-loop μ-loop
-loop-again c = (
-  omega arith,
-  omega arith,
-  turn (capSide 8 (c .before .before .before .before .before .before .before .args .inward) (c .before .before .before .before .before .before .before .args .center) (c .before .before .before .before .before .before .before .args .base)) 3 (cap-side-size 8 (c .before .before .before .before .before .before .before .args .inward) (c .before .before .before .before .before .before .before .args .center) (c .before .before .before .before .before .before .before .args .base)) _ _ _ (c .before .before .before .before .before .loop .k) (c .before .before .cap-side .ensures) (c .before .before .before .before .before .loop .inv .2) (c .before .before .before .before .before .loop .inv .1),
-)
+loop-again c = let loop = c .before .before .before .before .before .loop in
+    let args = c .before .before .before .before .before .before .before .args in (
+      omega arith,
+      omega arith,
+      turn (capSide 8 (args .inward) (args .center) (args .base)) 3 (cap-side-size 8 (args .inward) (args .center) (args .base)) _ _ _ (loop .k)
+          (c .before .before .cap-side .ensures) (loop .inv .2) (loop .inv .1),
+    )
 
 same-length : tie.Need-same-length Inv-loop μ-loop
 same-length c = kept _ _ _ (c .before .loop .inv .2)

@@ -7,8 +7,7 @@ use borrow.Author.Needs.{needs}
 use Rattle.buffers.specs.Put.{put, upto}
 use Rattle.buffers.proofs.Puts.{turn, kept}
 use Rattle.edges.specs.Tube.{ring, bandAt}
-use Rattle.edges.proofs.Tube.{band-size}
-use Rattle.edges.proofs.Theorems.{tube-is}
+use Rattle.edges.proofs.Stack.{band-size}
 use Rattle.stitch.proofs.Assembly.{assembled}
 use Rattle.stitch.proofs.tube_triangles.Statement.{statement}
 use Rattle.stitch.proofs.tube_triangles.Tie as tie
@@ -59,15 +58,16 @@ loop-less c = search needs
 
 loop-again : tie.Need-loop-again Inv-loop μ-loop
 unfolding ring
-loop-again c = (
-  omega arith,
-  omega arith,
-  c .before .before .before .before .before .loop .inv .3 ∙ ap (ring 8 (c .before .before .before .before .before .before .before .before .before .before .before .args .first)) (sym (add-one (c .before .before .before .before .before .loop .j))),
-  omega arith,
-  omega arith,
-  omega arith,
-  turn (bandAt 8 (c .before .before .before .before .before .before .before .before .before .before .before .args .first)) 48 (λ j. band-size 8 _ _) _ _ _ (c .before .before .before .before .before .loop .j) (c .before .before .append-ring-and-stitch .ensures ∙ rw (c .before .before .before .before .before .loop .inv .2, c .before .before .before .before .before .loop .inv .3)) (c .before .before .before .before .before .loop .inv .6) (c .before .before .before .before .before .loop .inv .1),
-)
+loop-again c = let loop = c .before .before .before .before .before .loop in
+    let args = c .before .before .before .before .before .before .before .before .before .before .before .args in (
+      omega arith,
+      omega arith,
+      loop .inv .3 ∙ ap (ring 8 (args .first)) (sym (add-one (loop .j))),
+      omega arith,
+      omega arith,
+      omega arith,
+      turn (bandAt 8 (args .first)) 48 (λ j. band-size 8 _ _) _ _ _ (loop .j) (c .before .before .append-ring-and-stitch .ensures ∙ rw (loop .inv .2, loop .inv .3)) (loop .inv .6) (loop .inv .1),
+    )
 
 emit-cap-requires-2 : tie.Need-emit-cap-requires-2 Inv-loop μ-loop
 emit-cap-requires-2 c κs = (omega (arith, kept _ _ _ (c .before .before .loop .inv .6), kept _ _ _ (c .before .before .before .before .before .emit-cap .ensures)), omega arith)
@@ -76,9 +76,10 @@ same-length : tie.Need-same-length Inv-loop μ-loop
 same-length c = kept _ _ _ (c .before .before .emit-cap2 .ensures) ∙ kept _ _ _ (c .before .before .before .before .before .loop .inv .6) ∙ kept _ _ _ (c .before .before .before .before .before .before .before .before .emit-cap .ensures)
 
 returns : tie.Need-returns Inv-loop μ-loop
-returns c = let e : c .before .before .before .before .before .loop .j ≡ 8 * (c .before .before .before .before .before .before .before .before .before .before .before .args .n - 1) = omega arith in
-    assembled _ _ _ (c .before .before .before .before .before .before .before .before .before .before .before .args .at) (c .before .before .before .before .before .before .before .before .before .before .before .args .first) _ _ _ _ _ (c .before .before .before .before .before .before .before .before .emit-cap .ensures) (c .before .before .before .before .before .loop .inv .6) (c .before .before .emit-cap2 .ensures) refl (omega arith) (omega arith) (c .before .before .before .before .before .loop .inv .2)
-    ∙ rw e (ap (put _ (c .before .before .before .before .before .before .before .before .before .before .before .args .at)) (sym (tube-is 8 8 (c .before .before .before .before .before .before .before .before .before .before .before .args .n) (c .before .before .before .before .before .before .before .before .before .before .before .args .first) (omega arith))))
+returns c = let loop = c .before .before .before .before .before .loop in
+    let args = c .before .before .before .before .before .before .before .before .before .before .before .args in
+    assembled 8 8 (args .first) (args .n) _ _ _ (args .at) (loop .j) _ _ _ _ (omega arith) (omega arith)
+    (c .before .before .before .before .before .before .before .before .emit-cap .ensures) (loop .inv .6) (c .before .before .emit-cap2 .ensures) refl (omega arith) (omega arith) (loop .inv .2)
 
 pub tube-triangles-spec : {M : Type 1} → statement M
 tube-triangles-spec =

@@ -31,9 +31,9 @@ band-size p a b = upto-size (bandSide p a b) 2 p (λ k. refl)
 pub bands-size : (p o m : ℕ) → length (upto (bandAt p o) m) ≡ 3 * (m * (p * 2))
 bands-size p o m = upto-size (bandAt p o) (p * 2) m (λ j. band-size p (ring p o j) (ring p o (suc j)))
 
-pub stack-size : (p m o : ℕ) → length (stack p m o) ≡ 3 * (2 * p * m + 2 * p)
+pub stack-size : (p o m : ℕ) → length (stack p o m) ≡ 3 * (2 * p * m + 2 * p)
 unfolding stack
-stack-size p m o =
+stack-size p o m =
     simp length-append (omega (arith, cap-size p true (startCentre p o) o, bands-size p o m, cap-size p false (endCentre p o m) (ring p o m)))
 
 -- ---- the edges of a cap and of a band, by kind
@@ -155,7 +155,7 @@ module _ (p o : ℕ) (big : 3 ≤ p) where
 
   -- ---- the whole tube
 
-  stack-count : (m x y : ℕ) → occurs x y (stack p m o)
+  stack-count : (m x y : ℕ) → occurs x y (stack p o m)
       ≡ upTo m x y + (spokes p (ring p o m) (endCentre p o m) x y + spokes p (ring p o m) (endCentre p o m) y x)
   unfolding stack upTo bands
   stack-count m x y =
@@ -168,7 +168,7 @@ module _ (p o : ℕ) (big : 3 ≤ p) where
         cap-count p (omega arith) x y (endCentre p o m) (ring p o m),
       )
 
-  pub closed-stack : (m : ℕ) → Closed o (o + (p * suc m + 2)) (λ x y. occurs x y (stack p m o))
+  pub closed-stack : (m : ℕ) → Closed o (o + (p * suc m + 2)) (λ x y. occurs x y (stack p o m))
   closed-stack m =
       let a = ring p o m in
       let c : ℕ = endCentre p o m in
