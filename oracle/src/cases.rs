@@ -1,0 +1,173 @@
+//! The bench cases of 01 as jobs and requests, for the tests and for the recorded answers.
+
+use crate::{
+    calls::needs,
+    job::{NONE, RawAtom, RawJob, RawSegment},
+    jobs::with_vertices,
+    protocol::{BUILD, PLAN, Request, TUBE},
+    tubes::{MAX_VERTICES, triangles_of},
+};
+
+/// C-alphas in one visible chain, residues and serials ascending from 0 and 1.
+pub fn chain_at(points: &[[f64; 3]]) -> RawJob {
+    RawJob {
+        residues: points.len() as u16,
+        visible: vec![1],
+        atoms: points
+            .iter()
+            .enumerate()
+            .map(|(i, &xyz)| RawAtom {
+                serial: i as u32 + 1,
+                role: 1,
+                residue: i as u16,
+                chain: 0,
+                xyz,
+            })
+            .collect(),
+        ..RawJob::default()
+    }
+}
+
+/// `n` residues 4 apart along x.
+pub fn straight(n: usize) -> RawJob {
+    let points: Vec<_> = (0..n).map(|i| [4.0 * i as f64, 0.0, 0.0]).collect();
+    chain_at(&points)
+}
+
+/// `n` residues 4 apart along x, all of them one segment.
+pub fn straight_segment(n: usize, kind: u8) -> RawJob {
+    let mut job = straight(n);
+    job.segments.push(RawSegment {
+        kind,
+        start: 1,
+        end: n as u32,
+    });
+    job
+}
+
+/// 01: 'Six residues 4 apart in one chain, helix over 2 and 3'.
+pub fn six_residues() -> RawJob {
+    let mut job = straight(6);
+    job.segments.push(RawSegment {
+        kind: 1,
+        start: 3,
+        end: 4,
+    });
+    job
+}
+
+/// Two residues, the second one step from the origin.
+pub fn step(x: f64, y: f64, z: f64) -> RawJob {
+    chain_at(&[[0.0, 0.0, 0.0], [x, y, z]])
+}
+
+/// The job of `ribbon-plan`'s example: 80 bytes.
+pub fn two_residues() -> RawJob {
+    step(4.0, 0.0, 0.0)
+}
+
+/// 01's four narrowing cases as coordinates, which the box then shows.
+pub fn narrowing() -> RawJob {
+    let third = 1.0 + 3.0 * 2f64.powi(-24);
+    chain_at(&[
+        [
+            f64::from_bits(0x3FB9_9999_9999_999A),
+            1.0 + 2f64.powi(-24),
+            third,
+        ],
+        [2f64.powi(-150), 1.5, 2.0],
+    ])
+}
+
+/// One atom with one coordinate.
+pub fn coordinate(x: f64) -> RawJob {
+    let mut job = chain_at(&[[0.0, x, 0.0]]);
+    job.atoms[0].role = 0;
+    job
+}
+
+/// A build with exactly these tubes' needs, `less` taken off the vertex room.
+pub fn build_request(job: &RawJob, [k, v, t]: [u64; 3], less: u32) -> Request {
+    let n = needs(k, v, t, job.residues as u64).map(|l| l as u32);
+    let mut lengths = n;
+    lengths[0] -= 3 * less;
+    lengths[1] -= 3 * less;
+    lengths[2] -= less;
+    Request {
+        call: BUILD,
+        lengths,
+        k: 0,
+        bytes: job.bytes(),
+    }
+}
+
+pub fn plan_request(job: &RawJob, k: u32) -> Request {
+    let n = needs(0, 0, 0, job.residues as u64).map(|l| l as u32);
+    Request {
+        call: PLAN,
+        lengths: n,
+        k,
+        bytes: job.bytes(),
+    }
+}
+
+/// The tube call on one record of `n` residues from triangle `first`, over `places` words.
+pub fn tube_request(n: u32, first: u32, places: u32, k: u32) -> Request {
+    let words = [0, 0, n, 0, first].into_iter().chain(0..places);
+    Request {
+        call: TUBE,
+        lengths: [0, 0, 0, places, 5, 0, 0, 0],
+        k,
+        bytes: words.flat_map(u32::to_be_bytes).collect(),
+    }
+}
+
+/// The bench cases that a request can show, with their boundaries.
+pub fn requests() -> Vec<Request> {
+    let five = f32::from_bits(0x40A0_0001) as f64;
+    let past = f64::from_bits(16384f64.to_bits() + 1);
+    let one = [1, 74, 144];
+    let room = triangles_of(2) as u32 * 3;
+    vec![
+        build_request(&RawJob::default(), [0, 0, 0], 0),
+        plan_request(&RawJob::default(), 0),
+        build_request(&straight(1), [0, 0, 0], 0),
+        build_request(&two_residues(), one, 0),
+        plan_request(&two_residues(), 0),
+        plan_request(&two_residues(), 1),
+        build_request(&straight(3), [1, 138, 272], 0),
+        build_request(&six_residues(), [3, 350, 688], 0),
+        build_request(&six_residues(), [3, 350, 688], 1),
+        plan_request(&six_residues(), 0),
+        plan_request(&six_residues(), 1),
+        plan_request(&six_residues(), 2),
+        build_request(&step(3.0, 4.0, 0.0), one, 0),
+        build_request(&step(5.0, 0.0, 0.0), one, 0),
+        build_request(&step(five, 0.0, 0.0), [0, 0, 0], 0),
+        build_request(&step(3.0, 4.0, 0.0012), one, 0),
+        build_request(&narrowing(), one, 0),
+        build_request(&straight_segment(3, 2), [1, 138, 272], 0),
+        build_request(&straight_segment(2, 1), one, 0),
+        build_request(&coordinate(16384.0), [0, 0, 0], 0),
+        build_request(&coordinate(past), [0, 0, 0], 0),
+        build_request(&coordinate(-16384.0), [0, 0, 0], 0),
+        build_request(&coordinate(-past), [0, 0, 0], 0),
+        build_request(&coordinate(f64::NAN), [0, 0, 0], 0),
+        plan_request(&at_vertex_limit(0), 287),
+        plan_request(&at_vertex_limit(2), 0),
+        tube_request(2, 0, room, 0),
+        tube_request(2, 0, room - 1, 0),
+        tube_request(2, 1, room + 3, 0),
+        tube_request(2, 1, room, 1),
+        tube_request(1, 0, room, 0),
+        tube_request(16_384, 0, room, 0),
+        tube_request(16_385, 0, room, 0),
+    ]
+}
+
+/// A job of 1,048,576 vertices and `more`.
+pub fn at_vertex_limit(more: u64) -> RawJob {
+    let mut job = with_vertices(MAX_VERTICES + more, 64).expect("such lengths exist");
+    job.atoms.iter_mut().for_each(|a| a.chain = NONE);
+    job
+}

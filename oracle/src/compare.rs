@@ -1,0 +1,275 @@
+//! Feeds generated requests to a program of the protocol and compares every word of its answers with the oracle's. At the first
+//! difference the request is shrunk and written to a file.
+
+use std::{
+    fs,
+    io::{self, BufReader, Read, Write},
+    path::PathBuf,
+    process::{Child, ChildStdout, Command, Stdio},
+    sync::mpsc,
+    thread,
+    time::{Duration, Instant},
+};
+
+use crate::{
+    angles,
+    generator::request,
+    job::{NONE, RawJob},
+    protocol::{BUILD, NAMES, PLAN, Request, TOO_LONG, TUBE, answer, places, read_answer},
+    shrink::shrink,
+};
+
+pub struct Options {
+    /// The program and its arguments.
+    pub batch: Vec<String>,
+    pub jobs: u64,
+    pub seed: u64,
+    /// Where a difference is written.
+    pub out: PathBuf,
+}
+
+/// How many answers of each kind were compared.
+#[derive(Default)]
+pub struct Tally {
+    pub meshes: u64,
+    pub plans: u64,
+    pub refusals: [u64; 12],
+    pub empty_parts: u64,
+    pub parts: u64,
+    pub passed_over: u64,
+    pub vertices: u64,
+}
+
+impl Tally {
+    pub fn count(&mut self, r: &Request, a: &[u32]) {
+        match (r.call, a[0]) {
+            (_, TOO_LONG) => self.passed_over += 1,
+            (TUBE, 0) => self.empty_parts += 1,
+            (TUBE, _) => self.parts += 1,
+            (BUILD, 0) => {
+                self.meshes += 1;
+                self.vertices += a[2] as u64;
+            }
+            (_, 0) => self.plans += 1,
+            (_, number) => self.refusals[number as usize] += 1,
+        }
+    }
+
+    pub fn text(&self) -> String {
+        let mut out = format!(
+            "meshes {} ({} vertices), plans {}, tube parts {}, empty parts {}, passed over {}, refusals",
+            self.meshes, self.vertices, self.plans, self.parts, self.empty_parts, self.passed_over
+        );
+        for (number, count) in self.refusals.iter().enumerate().skip(1) {
+            out.push_str(&format!(" {number}: {count}"));
+        }
+        out
+    }
+}
+
+/// Ends the child whatever happens, so that none is left behind.
+struct Running(Child);
+
+impl Drop for Running {
+    fn drop(&mut self) {
+        let _ = self.0.kill();
+        let _ = self.0.wait();
+    }
+}
+
+fn start(batch: &[String]) -> Result<Running, String> {
+    Command::new(&batch[0])
+        .args(&batch[1..])
+        .stdin(Stdio::piped())
+        .stdout(Stdio::piped())
+        .spawn()
+        .map(Running)
+        .map_err(|e| format!("cannot run '{}': {e}", batch[0]))
+}
+
+/// The program's answer to one request, alone in its input; none if it gives no whole answer.
+fn ask(batch: &[String], r: &Request) -> Option<Vec<u32>> {
+    let mut child = start(batch).ok()?;
+    let mut stdin = child.0.stdin.take()?;
+    let mut stdout = BufReader::new(child.0.stdout.take()?);
+    let bytes = r.encode();
+    thread::scope(|s| {
+        s.spawn(move || stdin.write_all(&bytes));
+        read_answer(r, &mut stdout).ok().flatten()
+    })
+}
+
+/// The program's end: no more output, and a good status.
+fn ended_well(mut child: Running, stdout: &mut BufReader<ChildStdout>) -> Result<(), String> {
+    let mut rest = Vec::new();
+    stdout
+        .take(64)
+        .read_to_end(&mut rest)
+        .map_err(|e| e.to_string())?;
+    if !rest.is_empty() {
+        return Err("the program wrote more than its answers".to_string());
+    }
+    let status = child.0.wait().map_err(|e| e.to_string())?;
+    if !status.success() {
+        return Err(format!("the program ended with {status}"));
+    }
+    Ok(())
+}
+
+/// True when every answer is the oracle's. The report goes to standard output, progress to standard error.
+pub fn compare(o: &Options) -> Result<bool, String> {
+    if let Some(why) = angles::differs() {
+        return Err(format!("{why}; compare on x86-64 with glibc"));
+    }
+    println!("seed {}, {} requests", o.seed, o.jobs);
+    let mut child = start(&o.batch)?;
+    let mut stdin = child.0.stdin.take().expect("piped");
+    let mut stdout = BufReader::with_capacity(1 << 20, child.0.stdout.take().expect("piped"));
+    let (send, receive) = mpsc::channel::<Request>();
+    let (seed, jobs) = (o.seed, o.jobs);
+    // The pipe keeps this thread close to the child, so the channel stays short.
+    let writer = thread::spawn(move || {
+        for i in 0..jobs {
+            let r = request(seed, i);
+            let bytes = r.encode();
+            if send.send(r).is_err() || stdin.write_all(&bytes).is_err() {
+                return;
+            }
+        }
+    });
+    let mut tally = Tally::default();
+    let began = Instant::now();
+    let mut told = began;
+    for (i, r) in receive.iter().enumerate() {
+        let expected = answer(&r);
+        let got = read_answer(&r, &mut stdout).map_err(|e: io::Error| e.to_string())?;
+        if got.as_ref() != Some(&expected) {
+            drop(child);
+            drop(receive);
+            let _ = writer.join();
+            report(o, i as u64, &r, got)?;
+            return Ok(false);
+        }
+        tally.count(&r, &expected);
+        if told.elapsed() > Duration::from_secs(5) {
+            told = Instant::now();
+            eprintln!("{} of {jobs} in {} s", i + 1, began.elapsed().as_secs());
+        }
+    }
+    let _ = writer.join();
+    println!("{}", tally.text());
+    match ended_well(child, &mut stdout) {
+        Ok(()) => {
+            println!("all {jobs} answers are equal");
+            Ok(true)
+        }
+        Err(why) => {
+            println!("{why}");
+            Ok(false)
+        }
+    }
+}
+
+fn report(o: &Options, index: u64, r: &Request, got: Option<Vec<u32>>) -> Result<(), String> {
+    println!("request {index} of seed {} differs", o.seed);
+    let shows = |r: &Request| ask(&o.batch, r).as_ref() != Some(&answer(r));
+    let alone = shows(r);
+    let (small, got) = if alone {
+        let small = shrink(r, shows);
+        let got = ask(&o.batch, &small);
+        (small, got)
+    } else {
+        (r.clone(), got)
+    };
+    let mut text = format!(
+        "request {index} of seed {}, program {}\n",
+        o.seed,
+        o.batch.join(" ")
+    );
+    if !alone {
+        text.push_str(
+            "this request shows no difference alone, only after the requests before it\n",
+        );
+    }
+    text.push_str(&difference(&small, &answer(&small), got.as_deref()));
+    text.push_str(&dump(&small));
+    text.push_str("\nthe request in hexadecimal:\n");
+    for line in small.encode().chunks(32) {
+        let hex: Vec<String> = line.iter().map(|b| format!("{b:02X}")).collect();
+        text.push_str(&hex.join(" "));
+        text.push('\n');
+    }
+    let path = o.out.join(format!("difference-{}-{index}.txt", o.seed));
+    fs::write(&path, &text).map_err(|e| format!("cannot write {}: {e}", path.display()))?;
+    println!(
+        "{}written to {}",
+        text.split("\nthe request").next().unwrap_or(""),
+        path.display()
+    );
+    Ok(())
+}
+
+/// Where two answers part first, by name and place.
+pub fn difference(r: &Request, expected: &[u32], got: Option<&[u32]>) -> String {
+    let Some(got) = got else {
+        return "the program gave no whole answer\n".to_string();
+    };
+    let Some(at) = (0..expected.len().max(got.len())).find(|&i| expected.get(i) != got.get(i))
+    else {
+        return "no difference\n".to_string();
+    };
+    let word = |w: Option<&u32>| match w {
+        Some(&w) => format!("{w:08X} ({w}, as a float {:?})", f32::from_bits(w)),
+        None => "nothing".to_string(),
+    };
+    let (name, place) = places(r, expected.len())
+        .into_iter()
+        .find(|(_, range)| range.contains(&at))
+        .map_or(("the end", at), |(name, range)| (name, at - range.start));
+    format!(
+        "first difference: {name}, place {place}: expected {}, got {}\n",
+        word(expected.get(at)),
+        word(got.get(at))
+    )
+}
+
+/// A request in words.
+pub fn dump(r: &Request) -> String {
+    let mut out = format!("call {}, k {}, {} bytes\n", r.call, r.k, r.bytes.len());
+    for (name, length) in NAMES.iter().zip(r.lengths) {
+        out.push_str(&format!("  {name}: {length}\n"));
+    }
+    let Some(job) = RawJob::of(&r.bytes).filter(|_| r.call == BUILD || r.call == PLAN) else {
+        return out;
+    };
+    let index = |i: u16| match i {
+        NONE => "none".to_string(),
+        i => i.to_string(),
+    };
+    out.push_str(&format!(
+        "version {}, {} residues\n",
+        job.version, job.residues
+    ));
+    for (i, v) in job.visible.iter().enumerate() {
+        out.push_str(&format!("chain {i}: visible {v}\n"));
+    }
+    for (i, s) in job.segments.iter().enumerate() {
+        out.push_str(&format!(
+            "segment {i}: kind {}, {} to {}\n",
+            s.kind, s.start, s.end
+        ));
+    }
+    for (i, a) in job.atoms.iter().enumerate() {
+        out.push_str(&format!(
+            "atom {i}: serial {}, role {}, residue {}, chain {}, at {:?} {:?} {:?}\n",
+            a.serial,
+            a.role,
+            index(a.residue),
+            index(a.chain),
+            a.xyz[0],
+            a.xyz[1],
+            a.xyz[2]
+        ));
+    }
+    out
+}

@@ -1,0 +1,257 @@
+//! Makes requests: jobs of every kind, each refusal at its boundary, damaged jobs, lent lengths around each need, and tube buffers with
+//! any contents. Request `i` of a seed does not depend on the others, so that a difference can be made again alone.
+
+use crate::{
+    calls::{list, needs},
+    job::{LIMIT, MAX_RESIDUES, NONE, RawAtom, RawJob, decode, fix_length},
+    jobs::{chaos, job},
+    protocol::{BUILD, MOST, MOST_BYTES, PLAN, Request, TUBE},
+    rng::Rng,
+    tubes::triangles_of,
+};
+
+fn next_up(x: f64) -> f64 {
+    f64::from_bits(x.to_bits() + 1)
+}
+
+// ── Damage ────────────────────────────────────────────────────────────────────
+
+/// One field set to a value that 01 refuses, or to the last one that it allows.
+fn bad_field(rng: &mut Rng, job: &mut RawJob) {
+    let (c, s, a) = (job.visible.len(), job.segments.len(), job.atoms.len());
+    match rng.below(8) {
+        0 => job.version = rng.pick(&[0, 2, 3, 255]),
+        1 if c > 0 => job.visible[rng.below(c as u64) as usize] = rng.pick(&[2, 255]),
+        2 if s > 0 => job.segments[rng.below(s as u64) as usize].kind = rng.pick(&[3, 255]),
+        3 => job.residues = rng.pick(&[0, MAX_RESIDUES, MAX_RESIDUES + 1, u16::MAX]),
+        _ if a > 0 => {
+            let (i, residues) = (rng.below(a as u64) as usize, job.residues);
+            bad_atom(rng, &mut job.atoms[i], residues, c as u16);
+        }
+        _ => {}
+    }
+}
+
+fn bad_atom(rng: &mut Rng, a: &mut RawAtom, residues: u16, chains: u16) {
+    match rng.below(5) {
+        0 => a.role = rng.pick(&[3, 255]),
+        1 => a.residue = rng.pick(&[residues, residues.wrapping_add(1), NONE - 1]),
+        2 => a.chain = rng.pick(&[chains, chains.wrapping_add(1), NONE - 1]),
+        _ => {
+            let far = [
+                LIMIT,
+                -LIMIT,
+                next_up(LIMIT),
+                -next_up(LIMIT),
+                1e300,
+                f64::INFINITY,
+                f64::NEG_INFINITY,
+                f64::NAN,
+                f64::from_bits(0xFFF0_0000_0000_0001),
+            ];
+            a.xyz[rng.below(3) as usize] = rng.pick(&far);
+        }
+    }
+}
+
+/// Bytes cut, lengthened or flipped, the length field put right afterwards or not.
+fn damage(rng: &mut Rng, b: &mut Vec<u8>) {
+    let n = b.len() as u64;
+    match rng.below(7) {
+        0 => b.truncate(rng.below(n + 1) as usize),
+        1 => b.truncate(rng.pick(&[0, 1, 4, 11, 12, 13]).min(b.len())),
+        2 => b.extend((0..rng.between(1, 40)).map(|i| i as u8)),
+        3 => b[rng.below(n) as usize] ^= 1 << rng.below(8),
+        4 => b[rng.below(n) as usize] = rng.word() as u8,
+        5 => b[rng.below(13) as usize] ^= 1 << rng.below(8),
+        _ => {
+            // The length field alone, by one.
+            let field = u32::from_be_bytes(b[..4].try_into().unwrap());
+            let other = if rng.percent(50) {
+                field + 1
+            } else {
+                field - 1
+            };
+            b[..4].copy_from_slice(&other.to_be_bytes());
+            return;
+        }
+    }
+    if rng.percent(60) {
+        fix_length(b);
+    }
+}
+
+pub fn job_bytes(rng: &mut Rng) -> Vec<u8> {
+    let mut job = job(rng);
+    if rng.percent(12) {
+        for _ in 0..rng.between(1, 3) {
+            bad_field(rng, &mut job);
+        }
+    }
+    let mut b = job.bytes();
+    if rng.percent(7) {
+        damage(rng, &mut b);
+    }
+    b.truncate(MOST_BYTES);
+    b
+}
+
+// ── Requests ──────────────────────────────────────────────────────────────────
+
+/// The lengths that this job needs; for a refused one lengths that show whether anything was written.
+fn needed(rng: &mut Rng, bytes: &[u8]) -> [u64; 8] {
+    match decode(bytes) {
+        Ok(job) => {
+            let tubes = list(&job);
+            needs(tubes.k, tubes.v, tubes.t, job.residues.len() as u64)
+        }
+        Err(_) => [0; 8].map(|_| rng.below(20)),
+    }
+}
+
+/// Lengths at, below and above each need, and 0.
+fn lengths(rng: &mut Rng, bytes: &[u8]) -> [u32; 8] {
+    let mut n = needed(rng, bytes);
+    let one = rng.below(8) as usize;
+    match rng.below(20) {
+        0..=8 => {}
+        9..=12 => n = n.map(|l| l + rng.pick(&[0, 0, 1, 2, 7])),
+        13 => n[one] += rng.between(1, 300),
+        14..=15 => n[one] = n[one].saturating_sub(1),
+        16 => n[6 + one % 2] = n[6 + one % 2].saturating_sub(1),
+        17 => n[one] = 0,
+        18 => n[..6].fill(0),
+        _ => n[one] = rng.below(n[one] + 1),
+    }
+    std::array::from_fn(|i| n[i].min(MOST[i] as u64) as u32)
+}
+
+fn plan_request(rng: &mut Rng) -> Request {
+    let bytes = job_bytes(rng);
+    let mut lengths = lengths(rng, &bytes);
+    // A plan is lent no output buffer: whatever is said of them changes nothing.
+    let output = if rng.percent(90) { 0 } else { 3 };
+    lengths[..6].fill(output);
+    let tubes = decode(&bytes).map_or(0, |job| list(&job).k);
+    let k = match rng.below(8) {
+        0 => tubes,
+        1 => tubes.saturating_sub(1),
+        2 => tubes + 1,
+        3 => u32::MAX as u64,
+        4 => rng.word() >> 32,
+        _ => rng.below(tubes + 1),
+    };
+    Request {
+        call: PLAN,
+        lengths,
+        k: k.min(u32::MAX as u64) as u32,
+        bytes,
+    }
+}
+
+/// Tube records with any contents, over triangles with any contents.
+fn tube_request(rng: &mut Rng) -> Request {
+    let n = rng.pick(&[2, 2, 2, 3, 3, 4, 5]);
+    let need = 3 * triangles_of(n) as u32;
+    let first = rng.pick(&[0, 0, 1, 2, 7, 100]);
+    let spare = rng.pick(&[0, 0, 0, 1, 2, 3, 50]);
+    let mut places = 3 * first + need + spare;
+    if rng.percent(25) {
+        places -= rng.between(1, 1 + spare as u64 * 2) as u32;
+    }
+    let k = rng.pick(&[0, 0, 1, 2, 3]);
+    let record = [
+        rng.below(3) as u32,
+        rng.below(100) as u32,
+        n as u32,
+        64 * first,
+        first,
+    ];
+    let mut tubes: Vec<u32> = (0..5 * k).map(|_| rng.word() as u32).collect();
+    tubes.extend(record);
+    tubes.extend((0..rng.below(7)).map(|_| rng.word() as u32));
+    let at = 5 * k as usize;
+    let mut asked = k;
+    match rng.below(18) {
+        0 => tubes[at + 2] = rng.pick(&[0, 1, 16_384, 16_385, u32::MAX]),
+        // 128 n wraps to that of 2 here.
+        1 => tubes[at + 2] = n as u32 + (1 << 25) * rng.between(1, 127) as u32,
+        // Tripled, or with the part's length added, these wrap to small places.
+        2 => {
+            let wraps = [
+                1_431_655_765,
+                1_431_655_766,
+                2_863_311_531,
+                u32::MAX,
+                1 << 31,
+            ];
+            tubes[at + 4] = rng.pick(&wraps);
+        }
+        3 => tubes.truncate(rng.below(tubes.len() as u64 + 1) as usize),
+        4 => tubes.truncate(at + 4),
+        // Five times these wrap to small places.
+        5 => {
+            asked = rng.pick(&[
+                858_993_459,
+                858_993_460,
+                1_717_986_919,
+                3_435_973_837,
+                u32::MAX,
+            ])
+        }
+        6 => asked = k + 1,
+        7 => tubes[at + 4] = rng.word() as u32 % 200,
+        8 => places = rng.below(places as u64 + 1) as u32,
+        _ => {}
+    }
+    let mut bytes: Vec<u8> = tubes.iter().flat_map(|w| w.to_be_bytes()).collect();
+    for _ in 0..places {
+        bytes.extend((rng.word() as u32).to_be_bytes());
+    }
+    let mut lengths = [0; 8];
+    lengths[3] = places;
+    lengths[4] = tubes.len() as u32;
+    Request {
+        call: TUBE,
+        lengths,
+        k: asked,
+        bytes,
+    }
+}
+
+/// A call that no program knows, or a length that no program has.
+fn refused_request(rng: &mut Rng) -> Request {
+    let mut r = Request {
+        call: rng.pick(&[BUILD, PLAN]),
+        lengths: [0; 8],
+        k: 0,
+        bytes: chaos(rng).bytes(),
+    };
+    if rng.percent(50) {
+        r.call = rng.pick(&[0, 4, 255]);
+    } else {
+        r.lengths[rng.between(6, 7) as usize] = u32::MAX;
+    }
+    r
+}
+
+/// Request `index` of `seed`.
+pub fn request(seed: u64, index: u64) -> Request {
+    let mut rng = Rng::new(seed, index);
+    let rng = &mut rng;
+    match rng.below(1000) {
+        0..=599 => {
+            let bytes = job_bytes(rng);
+            let lengths = lengths(rng, &bytes);
+            Request {
+                call: BUILD,
+                lengths,
+                k: rng.below(3) as u32,
+                bytes,
+            }
+        }
+        600..=799 => plan_request(rng),
+        800..=997 => tube_request(rng),
+        _ => refused_request(rng),
+    }
+}

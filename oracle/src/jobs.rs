@@ -1,0 +1,468 @@
+//! The generator's jobs: realistic proteins, and whatever else 01 makes possible in a job that it accepts (those at the limits of the
+//! counts aside, which may be one past them).
+
+use crate::{
+    job::{LIMIT, MAX_CHAINS, MAX_RESIDUES, NONE, RawAtom, RawJob, RawSegment},
+    rng::Rng,
+    tubes::MAX_VERTICES,
+};
+
+fn plus(a: [f64; 3], b: [f64; 3], s: f64) -> [f64; 3] {
+    [a[0] + b[0] * s, a[1] + b[1] * s, a[2] + b[2] * s]
+}
+
+/// Three decimals, as files give them.
+fn thousandths(p: [f64; 3]) -> [f64; 3] {
+    p.map(|x| (x * 1000.0).round() / 1000.0)
+}
+
+fn atom(serial: u32, role: u8, residue: u16, chain: u16, xyz: [f64; 3]) -> RawAtom {
+    RawAtom {
+        serial,
+        role,
+        residue,
+        chain,
+        xyz,
+    }
+}
+
+fn segment(kind: u8, start: u32, end: u32) -> RawSegment {
+    RawSegment { kind, start, end }
+}
+
+/// A protein as files hold it: stretches of helix, strand and loop, with what goes wrong in real files.
+fn protein(rng: &mut Rng, residues: u64) -> RawJob {
+    let mut job = RawJob::default();
+    let mut serial = rng.between(1, 3) as u32;
+    let mut residue = 0;
+    let faults = rng.pick(&[0, 3, 10]);
+    while residue < residues {
+        let chain = if rng.percent(4) {
+            NONE
+        } else {
+            job.visible.push(!rng.percent(20) as u8);
+            job.visible.len() as u16 - 1
+        };
+        let end = (residue + rng.between(1, residues.max(2) * 2 / 3)).min(residues);
+        let mut p = [0; 3].map(|_| rng.real(-60.0, 60.0));
+        while residue < end {
+            let kind = rng.below(3) as u8;
+            let stretch = rng.between(1, 9).min(end - residue);
+            let first = serial;
+            for step in 0..stretch {
+                p = step_on(rng, p, kind, step);
+                if rng.percent(faults) {
+                    p = plus(p, rng.direction(), rng_gap(rng));
+                }
+                residue_atoms(rng, &mut job, &mut serial, residue as u16, chain, p, faults);
+                residue += 1;
+                residue += rng.percent(faults) as u64;
+            }
+            if kind > 0 || rng.percent(10) {
+                let kind = if rng.percent(5) {
+                    rng.below(3) as u8
+                } else {
+                    kind
+                };
+                let end = if serial > first { serial - 1 } else { first };
+                job.segments.push(segment(kind, first, end));
+            }
+        }
+    }
+    job.residues = residue.max(residues) as u16;
+    if rng.percent(faults * 2) {
+        disorder(rng, &mut job);
+    }
+    job
+}
+
+fn rng_gap(rng: &mut Rng) -> f64 {
+    rng.pick(&[1.0, 3.0, 8.0, 20.0])
+}
+
+/// The next C-alpha of a stretch: about 3.8 from the last one.
+fn step_on(rng: &mut Rng, p: [f64; 3], kind: u8, step: u64) -> [f64; 3] {
+    let angle = step as f64 * 100.0_f64.to_radians();
+    match kind {
+        1 => plus(p, [angle.cos() * 3.5, angle.sin() * 3.5, 1.5], 1.0),
+        2 => plus(p, [3.3, [0.9, -0.9][step as usize % 2], 0.1], 1.0),
+        _ => plus(p, rng.direction(), 3.8),
+    }
+}
+
+fn residue_atoms(
+    rng: &mut Rng,
+    job: &mut RawJob,
+    serial: &mut u32,
+    residue: u16,
+    chain: u16,
+    p: [f64; 3],
+    faults: u64,
+) {
+    let oxygen = plus(p, rng.direction(), 2.4);
+    let at = [
+        (0, plus(p, rng.direction(), 1.46)),
+        (1, p),
+        (0, plus(p, rng.direction(), 1.52)),
+        (2, oxygen),
+    ];
+    for (role, xyz) in at {
+        if rng.percent(faults) {
+            continue;
+        }
+        let times = if rng.percent(faults) { 2 } else { 1 };
+        for _ in 0..times {
+            let near = plus(xyz, rng.direction(), if times == 2 { 0.4 } else { 0.0 });
+            let chain = if rng.percent(faults / 3) { NONE } else { chain };
+            job.atoms
+                .push(atom(*serial, role, residue, chain, thousandths(near)));
+            *serial += 1;
+        }
+    }
+}
+
+/// Segments that overlap, are turned round or taken twice, and atoms out of order.
+fn disorder(rng: &mut Rng, job: &mut RawJob) {
+    for _ in 0..rng.between(1, 3) {
+        let (a, s) = (job.atoms.len() as u64, job.segments.len() as u64);
+        if a < 2 {
+            return;
+        }
+        let (i, j) = (rng.below(a) as usize, rng.below(a) as usize);
+        match rng.below(5) {
+            0 => job.atoms.swap(i, j),
+            1 if s > 0 => job
+                .segments
+                .push(job.segments[rng.below(s) as usize].clone()),
+            2 => {
+                let moved = job.atoms.remove(i);
+                job.atoms.push(moved);
+            }
+            3 => job.atoms[i].residue = job.atoms[j].residue,
+            _ => {
+                let (start, end) = (job.atoms[i].serial, job.atoms[j].serial);
+                job.segments.push(segment(rng.below(3) as u8, start, end));
+            }
+        }
+    }
+}
+
+/// A coordinate out of a small set, so that equal points, straight lines and zeros of both signs are common.
+fn odd_coordinate(rng: &mut Rng) -> f64 {
+    match rng.below(12) {
+        0 => -0.0,
+        1 => 0.0,
+        2 => rng.real(-2.0, 2.0),
+        3 => f64::from_bits(rng.below(1 << 52)),
+        4 => rng.real(-1e-7, 1e-7),
+        5 => 1.0 + f64::from_bits(0x3E70_0000_0000_0000) * rng.below(4) as f64,
+        _ => rng.below(4) as f64,
+    }
+}
+
+/// Atoms and segments drawn at random from few serials, residues and chains.
+pub fn chaos(rng: &mut Rng) -> RawJob {
+    let visible: Vec<u8> = (0..rng.below(4)).map(|_| !rng.percent(30) as u8).collect();
+    let residues = rng.pick(&[0, 1, 2, 3, 4, 5, 6, 8, 10]);
+    let chains = visible.len() as u64;
+    let serials = rng.between(1, 20);
+    let serial = |rng: &mut Rng| match rng.below(20) {
+        0 => u32::MAX - rng.below(2) as u32,
+        _ => rng.below(serials) as u32,
+    };
+    let far = if rng.percent(5) { LIMIT } else { 0.0 };
+    let no_chain = rng.pick(&[5, 30, 100]);
+    let atoms = (0..rng.below(30))
+        .map(|_| {
+            let residue = match residues {
+                0 => NONE,
+                _ if rng.percent(8) => NONE,
+                _ => rng.below(residues as u64) as u16,
+            };
+            let chain = match chains {
+                0 => NONE,
+                _ if rng.percent(no_chain) => NONE,
+                // Mostly a residue's own chain, so that neighbours share one.
+                _ if residue != NONE && rng.percent(70) => (residue as u64 / 4 % chains) as u16,
+                _ => rng.below(chains) as u16,
+            };
+            let xyz = [0; 3].map(|_| {
+                let x = odd_coordinate(rng);
+                if far > 0.0 { far - x.abs() } else { x }
+            });
+            let role = rng.pick(&[1, 1, 1, 2, 2, 0]);
+            atom(serial(rng), role, residue, chain, xyz)
+        })
+        .collect();
+    let segments = (0..rng.below(6))
+        .map(|_| segment(rng.below(3) as u8, serial(rng), serial(rng)))
+        .collect();
+    RawJob {
+        residues,
+        visible,
+        segments,
+        atoms,
+        ..RawJob::default()
+    }
+}
+
+/// A step between neighbours: around 5.0, straight on, none, or tiny.
+fn odd_step(rng: &mut Rng) -> [f64; 3] {
+    let just_above = f32::from_bits(0x40A0_0001) as f64;
+    let just_below = f32::from_bits(0x409F_FFFF) as f64;
+    let steps = [
+        [5.0, 0.0, 0.0],
+        [0.0, -5.0, 0.0],
+        [just_above, 0.0, 0.0],
+        [0.0, 0.0, -just_above],
+        [just_below, 0.0, 0.0],
+        [3.0, 4.0, 0.0],
+        [0.0, 3.0, -4.0],
+        [3.0, 4.0, 0.0012],
+        [3.0, 4.0, 0.003],
+        [4.0, 0.0, 0.0],
+        [4.0, 0.0, 0.0],
+        [-4.0, 0.0, 0.0],
+        [0.0, 4.0, 0.0],
+        [0.0, 0.0, 4.0],
+        [0.0, 0.0, -1.0],
+        [0.0, 0.0, 0.0],
+        [-0.0, 0.0, 0.0],
+        [1e-8, 0.0, 1e-8],
+    ];
+    let slanted = rng.real(0.85, 0.95);
+    match rng.below(4) {
+        0 => rng.direction().map(|x| x * 3.8),
+        1 => [(1.0 - slanted * slanted).sqrt() * 3.0, 0.0, slanted * 3.0],
+        _ => rng.pick(&steps),
+    }
+}
+
+/// An oxygen in an awkward place: on the line of the chain, nearly on it, on the C-alpha itself.
+fn odd_oxygen(rng: &mut Rng, ca: [f64; 3], step: [f64; 3]) -> [f64; 3] {
+    match rng.below(6) {
+        0 => ca,
+        1 => plus(ca, step, 1.0),
+        2 => plus(
+            plus(ca, step, -0.5),
+            rng.direction(),
+            10f64.powf(rng.real(-8.0, -4.0)),
+        ),
+        3 => plus(ca, [0.0, 0.0, 1.0], 2.0),
+        _ => plus(ca, rng.direction(), 2.4),
+    }
+}
+
+/// One path through space with odd steps, residues in order, marked by a few segments.
+fn path(rng: &mut Rng, scale: f64) -> RawJob {
+    let n = rng.between(2, 14) as u16;
+    let mut p = match rng.below(8) {
+        0 if scale == 1.0 => [LIMIT, -LIMIT, LIMIT - 1.0],
+        1 => [-0.0, 0.0, -0.0],
+        2 if scale == 1.0 => [0; 3].map(|_| rng.below(2000) as f64 - 1000.0),
+        _ => [0.0, 0.0, 0.0],
+    };
+    let mut job = RawJob {
+        residues: n,
+        visible: vec![1, !rng.percent(50) as u8],
+        ..RawJob::default()
+    };
+    let split = if rng.percent(20) {
+        rng.below(n as u64) as u16
+    } else {
+        n
+    };
+    let oxygens = rng.pick(&[0, 50, 100]);
+    for residue in 0..n {
+        let step = odd_step(rng).map(|x| x * scale);
+        if residue > 0 {
+            let q = plus(p, step, 1.0);
+            p = if q.iter().all(|x| x.abs() <= LIMIT) {
+                q
+            } else {
+                plus(p, step, -1.0)
+            };
+        }
+        // A zero of the other sign is the same place.
+        let ca = if rng.percent(20) {
+            p.map(|x| if x == 0.0 { -x } else { x })
+        } else {
+            p
+        };
+        let chain = (residue >= split) as u16;
+        let serial = 2 * residue as u32;
+        if rng.percent(97) {
+            job.atoms.push(atom(serial, 1, residue, chain, ca));
+        }
+        if rng.percent(oxygens) {
+            let o = odd_oxygen(rng, ca, step).map(|x| x.clamp(-LIMIT, LIMIT));
+            job.atoms.push(atom(serial + 1, 2, residue, chain, o));
+        }
+        if rng.percent(4) {
+            job.atoms
+                .push(atom(serial, 1, residue, chain, odd_step(rng)));
+        }
+    }
+    for _ in 0..rng.below(4) {
+        let (a, b) = (rng.below(n as u64) as u32, rng.below(n as u64) as u32);
+        let (start, end) = if rng.percent(95) {
+            (a.min(b), a.max(b))
+        } else {
+            (a, b)
+        };
+        job.segments
+            .push(segment(rng.between(0, 2) as u8, 2 * start, 2 * end + 1));
+    }
+    job
+}
+
+/// A straight strand whose oxygens turn by quarters: guides at right angles, which sum to nothing over four residues.
+fn quarter_turns(rng: &mut Rng) -> RawJob {
+    let n = rng.between(2, 9) as u16;
+    let mut job = RawJob {
+        residues: n,
+        ..RawJob::default()
+    };
+    let axis = rng.below(3) as usize;
+    let lean = rng.pick(&[0.0, 0.0, 1e-7, -1e-8]);
+    let uneven = rng.pick(&[0.0, 0.0, 1e-3]);
+    for residue in 0..n {
+        let mut ca = [0.0; 3];
+        ca[axis] = 4.0 * residue as f64;
+        let mut o = ca;
+        let turn = if rng.percent(90) { residue % 4 } else { 0 };
+        let side = (axis + 1 + turn as usize % 2) % 3;
+        o[side] += if turn < 2 { 2.0 } else { -2.0 };
+        o[axis] += lean;
+        o[3 - axis - side] += uneven * rng.unit();
+        let serial = 2 * residue as u32;
+        job.atoms.push(atom(serial, 1, residue, NONE, ca));
+        job.atoms.push(atom(serial + 1, 2, residue, NONE, o));
+    }
+    let kind = rng.pick(&[2, 2, 1, 0]);
+    job.segments.push(segment(kind, 0, 2 * n as u32));
+    job
+}
+
+/// Very many short tubes over few residues.
+fn crowd(rng: &mut Rng) -> RawJob {
+    let mut job = path(rng, 0.5);
+    let n = job.residues as u64;
+    for _ in 0..rng.between(50, 250) {
+        let start = rng.below(n) as u32;
+        let end = start + rng.below(3) as u32;
+        job.segments
+            .push(segment(rng.below(3) as u8, 2 * start, 2 * end + 1));
+    }
+    job
+}
+
+/// Counts of 0 in one place or another, over what is otherwise a small job.
+fn with_nothing(rng: &mut Rng) -> RawJob {
+    let mut job = chaos(rng);
+    match rng.below(5) {
+        0 => return RawJob::default(),
+        1 => job.atoms.clear(),
+        2 => job.segments.clear(),
+        3 => {
+            job.visible.clear();
+            job.atoms.iter_mut().for_each(|a| a.chain = NONE);
+        }
+        _ => {
+            job.residues = 0;
+            job.atoms.iter_mut().for_each(|a| a.residue = NONE);
+        }
+    }
+    job
+}
+
+/// Counts at their limits. Few atoms: the counts matter here.
+fn at_the_limits(rng: &mut Rng) -> RawJob {
+    let mut job = chaos(rng);
+    match rng.below(4) {
+        0 => job.residues = rng.pick(&[511, 512, 513, MAX_RESIDUES - 1, MAX_RESIDUES]),
+        1 => job.residues = rng.pick(&[MAX_RESIDUES + 1, u16::MAX]),
+        2 => {
+            let c = rng.pick(&[MAX_CHAINS - 1, MAX_CHAINS, MAX_CHAINS + 1]);
+            job.visible.resize(c as usize, 1);
+        }
+        _ => {
+            job.residues = 512;
+            let last = |residue| atom(1, 1, residue, NONE, [residue as f64, 0.0, 0.0]);
+            job.atoms.extend([last(510), last(511)]);
+        }
+    }
+    job
+}
+
+/// `tubes` overlapping segments over one straight chain whose vertices sum to `v`, if there are such lengths of 2 to `most`.
+fn lengths_for(v: u64, tubes: u64, most: u64) -> Option<Vec<u64>> {
+    let sum = (v + 54 * tubes) / 64;
+    if 64 * sum != v + 54 * tubes || sum < 2 * tubes || sum > most * tubes {
+        return None;
+    }
+    let mut left = sum - 2 * tubes;
+    let mut lengths = Vec::new();
+    for _ in 0..tubes {
+        let more = left.min(most - 2);
+        lengths.push(2 + more);
+        left -= more;
+    }
+    Some(lengths)
+}
+
+/// A job whose V is exactly `v`: the whole chain is covered, so there is no coil.
+pub fn with_vertices(v: u64, most: u64) -> Option<RawJob> {
+    let fewest = (v + 53) / (64 * most - 54);
+    let lengths = (fewest.max(1)..fewest + 40).find_map(|tubes| lengths_for(v, tubes, most))?;
+    let longest = *lengths.iter().max()?;
+    Some(RawJob {
+        residues: longest as u16,
+        segments: lengths
+            .iter()
+            .map(|&n| segment(1, 0, n as u32 - 1))
+            .collect(),
+        atoms: (0..longest)
+            .map(|i| atom(i as u32, 1, i as u16, NONE, [4.0 * i as f64, 0.0, 0.0]))
+            .collect(),
+        ..RawJob::default()
+    })
+}
+
+fn near_the_vertex_limit(rng: &mut Rng) -> RawJob {
+    let most = rng.pick(&[64, 100, 256, 512]);
+    let v = rng.pick(&[
+        MAX_VERTICES,
+        MAX_VERTICES,
+        MAX_VERTICES - 2,
+        MAX_VERTICES + 2,
+        1_500_000,
+    ]);
+    with_vertices(v, most).expect("such lengths exist")
+}
+
+/// A job that passes checks 1 to 8, but for those made at the limits.
+pub fn job(rng: &mut Rng) -> RawJob {
+    match rng.below(1000) {
+        0..=349 => {
+            let residues = rng.pick(&[3, 6, 10, 16, 24, 40]);
+            protein(rng, residues)
+        }
+        350..=599 => chaos(rng),
+        600..=799 => path(rng, 1.0),
+        800..=819 => quarter_turns(rng),
+        820..=899 => {
+            // Around 1e-8, where directions vanish.
+            let scale = 10f64.powf(rng.real(-10.0, -6.0));
+            path(rng, scale)
+        }
+        900..=959 => with_nothing(rng),
+        960..=992 => at_the_limits(rng),
+        993..=994 => crowd(rng),
+        995..=997 => near_the_vertex_limit(rng),
+        _ => {
+            let residues = rng.between(200, 500);
+            protein(rng, residues)
+        }
+    }
+}

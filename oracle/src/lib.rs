@@ -1,0 +1,25 @@
+//! The oracle: document 000 (`ribbon_mesh.rs`) compiled over stand-ins which obey 01, the calls that 01 adds around it, a generator of
+//! requests, the stream protocol, and the driver that compares another program with it bit for bit.
+
+pub mod angles;
+pub mod calls;
+pub mod cases;
+pub mod compare;
+pub mod generator;
+pub mod job;
+pub mod jobs;
+pub mod plan_text;
+pub mod protocol;
+pub mod record;
+// Document 000 keeps its own ways of writing, so that it can be held beside the original.
+#[allow(
+    clippy::assign_op_pattern,
+    clippy::needless_range_loop,
+    clippy::nonminimal_bool
+)]
+pub mod ribbon_mesh;
+pub mod rng;
+pub mod shrink;
+pub mod stand_ins;
+pub mod tubes;
+pub mod wrong;

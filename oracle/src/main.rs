@@ -1,0 +1,149 @@
+//! The program `oracle`: answers requests, generates them, compares another program with itself, and writes what is recorded. A bad
+//! command line gives a message on standard error and exit status 2, a difference exit status 1.
+
+use std::{
+    io::{self, BufReader, BufWriter, Read, Write},
+    path::Path,
+    process::ExitCode,
+    str::FromStr,
+};
+
+use oracle::{
+    angles,
+    compare::{Options, compare},
+    generator,
+    plan_text::plan_text,
+    protocol::{Request, answer, encode_words},
+    record::record,
+    wrong::{self, Mutation},
+};
+
+const USAGE: &str = "usage:
+  oracle answer [--wrong MISTAKE]                              requests on standard input, answers on standard output
+  oracle compare --batch PROGRAM [--jobs N] [--seed S] [--out DIR]   compares PROGRAM (split on blanks) with the oracle
+  oracle generate [--jobs N] [--seed S]                        requests on standard output
+  oracle record --out DIR                                      writes the recorded answers
+  oracle plan-text                                             a job on standard input; prints what ribbon-plan prints
+  oracle angles                                                the eight cosines and sines of this machine
+  oracle mistakes                                              the names that --wrong takes";
+
+/// The value of each option given, in the order of `names`; anything else on the line is an error.
+fn options(args: &[String], names: &[&str]) -> Result<Vec<Option<String>>, String> {
+    let mut values = vec![None; names.len()];
+    for pair in args.chunks(2) {
+        let at = names.iter().position(|&n| n == pair[0]);
+        let at = at.ok_or(format!("unknown option '{}'", pair[0]))?;
+        let value = pair.get(1).ok_or(format!("'{}' needs a value", pair[0]))?;
+        values[at] = Some(value.clone());
+    }
+    Ok(values)
+}
+
+fn number<T: FromStr>(value: Option<String>, otherwise: T) -> Result<T, String> {
+    match value {
+        Some(v) => v.parse().map_err(|_| format!("'{v}' is not a number")),
+        None => Ok(otherwise),
+    }
+}
+
+fn run_answer(args: &[String]) -> Result<bool, String> {
+    let mistake = match options(args, &["--wrong"])?.remove(0) {
+        Some(name) => Some(wrong::by_name(&name).ok_or(format!("unknown mistake '{name}'"))?),
+        None => None,
+    };
+    let mut input = BufReader::new(io::stdin().lock());
+    let mut output = BufWriter::new(io::stdout().lock());
+    wrong::with(mistake, || -> io::Result<()> {
+        while let Some(r) = Request::read(&mut input)? {
+            output.write_all(&encode_words(&answer(&r)))?;
+        }
+        output.flush()
+    })
+    .map(|()| true)
+    .map_err(|e| e.to_string())
+}
+
+fn run_compare(args: &[String]) -> Result<bool, String> {
+    let mut o = options(args, &["--batch", "--jobs", "--seed", "--out"])?;
+    let batch: Vec<String> = o[0]
+        .take()
+        .unwrap_or_default()
+        .split_whitespace()
+        .map(str::to_string)
+        .collect();
+    if batch.is_empty() {
+        return Err("compare needs --batch PROGRAM".to_string());
+    }
+    compare(&Options {
+        batch,
+        jobs: number(o[1].take(), 10_000)?,
+        seed: number(o[2].take(), 1)?,
+        out: o[3].take().unwrap_or(".".to_string()).into(),
+    })
+}
+
+fn run_generate(args: &[String]) -> Result<bool, String> {
+    let mut o = options(args, &["--jobs", "--seed"])?;
+    let jobs: u64 = number(o[0].take(), 1000)?;
+    let seed = number(o[1].take(), 1)?;
+    let mut output = BufWriter::new(io::stdout().lock());
+    (0..jobs)
+        .try_for_each(|i| output.write_all(&generator::request(seed, i).encode()))
+        .and_then(|()| output.flush())
+        .map(|()| true)
+        .map_err(|e| e.to_string())
+}
+
+fn run_record(args: &[String]) -> Result<bool, String> {
+    let out = options(args, &["--out"])?.remove(0);
+    let out = out.ok_or("record needs --out DIR")?;
+    record(Path::new(&out)).map_err(|e| format!("cannot record in {out}: {e}"))?;
+    Ok(true)
+}
+
+fn run_plan_text(args: &[String]) -> Result<bool, String> {
+    options(args, &[])?;
+    let mut bytes = Vec::new();
+    io::stdin()
+        .lock()
+        .read_to_end(&mut bytes)
+        .map_err(|e| e.to_string())?;
+    print!("{}", plan_text(&bytes));
+    Ok(true)
+}
+
+fn run(args: &[String]) -> Result<bool, String> {
+    let (command, rest) = args.split_first().ok_or("no command")?;
+    match command.as_str() {
+        "answer" => run_answer(rest),
+        "compare" => run_compare(rest),
+        "generate" => run_generate(rest),
+        "record" => run_record(rest),
+        "plan-text" => run_plan_text(rest),
+        "angles" => {
+            options(rest, &[])?;
+            print!("{}", angles::report());
+            Ok(true)
+        }
+        "mistakes" => {
+            options(rest, &[])?;
+            for m in Mutation::ALL {
+                println!("{}: {}", m.name(), m.what());
+            }
+            Ok(true)
+        }
+        _ => Err(format!("unknown command '{command}'")),
+    }
+}
+
+fn main() -> ExitCode {
+    let args: Vec<String> = std::env::args().skip(1).collect();
+    match run(&args) {
+        Ok(true) => ExitCode::SUCCESS,
+        Ok(false) => ExitCode::from(1),
+        Err(why) => {
+            eprintln!("oracle: {why}\n{USAGE}");
+            ExitCode::from(2)
+        }
+    }
+}

@@ -1,0 +1,275 @@
+//! The stream protocol of the batch program: requests and answers as bytes, what the lent buffers hold before a call, and the oracle's
+//! own answer to a request. All numbers are big-endian.
+//!
+//! Request: u8 call (1 build, 2 plan, 3 tube); eight u32 lengths in places (positions, normals, tags, triangles, tubes, boxes, scratch
+//! words, scratch floats); u32 k; u32 L; L bytes: the job, or for call 3 the tube buffer and then the triangle buffer.
+//! Answer to 1: number (0: a mesh), three words (K, V, T or the carried values), every place of the eight buffers. To 2: the same four
+//! words, tube k's five words, the two scratch buffers. To 3: the length of the part, then its words. `TOO_LONG` alone answers an
+//! unknown call, a request past the program's arrays, and a tube call whose bytes are not those of its two lengths.
+
+use std::io::{self, Read};
+
+use crate::calls::{self, Buffers};
+
+pub const BUILD: u8 = 1;
+pub const PLAN: u8 = 2;
+pub const TUBE: u8 = 3;
+pub const TOO_LONG: u32 = u32::MAX;
+pub const NAN: u32 = 0x7FC0_0000;
+
+pub const NAMES: [&str; 8] = [
+    "positions",
+    "normals",
+    "tags",
+    "triangles",
+    "tubes",
+    "boxes",
+    "scratch words",
+    "scratch floats",
+];
+/// Which of the eight buffers hold floats.
+pub const FLOATS: [bool; 8] = [true, true, false, false, false, true, false, true];
+
+/// The least arrays that a batch program has: 34,000 vertices with their triangles, 1,024 tubes, 512 residues.
+pub const MOST: [u32; 8] = [
+    3 * 34_000,
+    3 * 34_000,
+    34_000,
+    3 * 2 * 34_000,
+    5 * 1_024,
+    6 * 1_024,
+    8 * 512,
+    32 * 512,
+];
+pub const MOST_BYTES: usize = 262_144;
+
+#[derive(Clone, Debug, PartialEq)]
+pub struct Request {
+    pub call: u8,
+    pub lengths: [u32; 8],
+    pub k: u32,
+    pub bytes: Vec<u8>,
+}
+
+impl Request {
+    pub fn encode(&self) -> Vec<u8> {
+        let mut b = Vec::with_capacity(41 + self.bytes.len());
+        b.push(self.call);
+        for n in self.lengths {
+            b.extend(n.to_be_bytes());
+        }
+        b.extend(self.k.to_be_bytes());
+        b.extend((self.bytes.len() as u32).to_be_bytes());
+        b.extend(&self.bytes);
+        b
+    }
+
+    /// The next request, or none when the input ends, be it inside a request.
+    pub fn read(input: &mut impl Read) -> io::Result<Option<Request>> {
+        let mut head = [0; 41];
+        if !read_whole(input, &mut head)? {
+            return Ok(None);
+        }
+        let word = |i: usize| u32::from_be_bytes(head[i..i + 4].try_into().unwrap());
+        let length = word(37) as usize;
+        let mut bytes = Vec::new();
+        if input.take(length as u64).read_to_end(&mut bytes)? < length {
+            return Ok(None);
+        }
+        Ok(Some(Request {
+            call: head[0],
+            lengths: std::array::from_fn(|i| word(1 + 4 * i)),
+            k: word(33),
+            bytes,
+        }))
+    }
+
+    fn too_long(&self) -> bool {
+        let past = |i: usize| self.lengths[i] > MOST[i];
+        match self.call {
+            BUILD | PLAN => (0..8).any(past) || self.bytes.len() > MOST_BYTES,
+            TUBE => {
+                let places = self.lengths[4] as usize + self.lengths[3] as usize;
+                past(3) || past(4) || self.bytes.len() != 4 * places
+            }
+            _ => true,
+        }
+    }
+}
+
+fn read_whole(input: &mut impl Read, out: &mut [u8]) -> io::Result<bool> {
+    match input.read_exact(out) {
+        Ok(()) => Ok(true),
+        Err(e) if e.kind() == io::ErrorKind::UnexpectedEof => Ok(false),
+        Err(e) => Err(e),
+    }
+}
+
+fn words_before(n: u32) -> Vec<u32> {
+    (0..n).map(|i| 0xC0DE_0000 + i % 65536).collect()
+}
+
+fn floats_before(n: u32) -> Vec<f32> {
+    (0..n)
+        .map(|i| f32::from_bits(0x4000_0000 + i % 65536))
+        .collect()
+}
+
+/// What the buffers hold before each call.
+pub fn buffers_before(lengths: [u32; 8]) -> Buffers {
+    Buffers {
+        positions: floats_before(lengths[0]),
+        normals: floats_before(lengths[1]),
+        tags: words_before(lengths[2]),
+        triangles: words_before(lengths[3]),
+        tubes: words_before(lengths[4]),
+        boxes: floats_before(lengths[5]),
+        words: words_before(lengths[6]),
+        floats: floats_before(lengths[7]),
+    }
+}
+
+/// 01: 'all NaNs count as equal', so one stands for all.
+pub fn float_word(bits: u32) -> u32 {
+    if f32::from_bits(bits).is_nan() {
+        NAN
+    } else {
+        bits
+    }
+}
+
+fn put_floats(out: &mut Vec<u32>, floats: &[f32]) {
+    out.extend(floats.iter().map(|f| float_word(f.to_bits())));
+}
+
+/// The oracle's answer, in words.
+pub fn answer(r: &Request) -> Vec<u32> {
+    if r.too_long() {
+        return vec![TOO_LONG];
+    }
+    match r.call {
+        BUILD => answer_build(r),
+        PLAN => answer_plan(r),
+        _ => answer_tube(r),
+    }
+}
+
+fn answer_build(r: &Request) -> Vec<u32> {
+    let mut b = buffers_before(r.lengths);
+    let mut out = match calls::build(&r.bytes, &mut b) {
+        Ok(c) => vec![0, c.k, c.v, c.t],
+        Err(e) => vec![e.number, e.carried[0], e.carried[1], e.carried[2]],
+    };
+    put_floats(&mut out, &b.positions);
+    put_floats(&mut out, &b.normals);
+    out.extend(&b.tags);
+    out.extend(&b.triangles);
+    out.extend(&b.tubes);
+    put_floats(&mut out, &b.boxes);
+    out.extend(&b.words);
+    put_floats(&mut out, &b.floats);
+    out
+}
+
+fn answer_plan(r: &Request) -> Vec<u32> {
+    let mut words = words_before(r.lengths[6]);
+    let mut floats = floats_before(r.lengths[7]);
+    let mut out = Vec::new();
+    match calls::plan(&r.bytes, r.k, &mut words, &mut floats) {
+        Ok((c, five)) => {
+            out.extend([0, c.k, c.v, c.t]);
+            out.extend(five);
+        }
+        Err(e) => {
+            out.push(e.number);
+            out.extend(e.carried);
+            out.extend([0; 5]);
+        }
+    }
+    out.extend(words);
+    put_floats(&mut out, &floats);
+    out
+}
+
+fn answer_tube(r: &Request) -> Vec<u32> {
+    let words: Vec<u32> = r
+        .bytes
+        .chunks(4)
+        .map(|b| u32::from_be_bytes(b.try_into().unwrap()))
+        .collect();
+    let (tubes, triangles) = words.split_at(r.lengths[4] as usize);
+    let part = calls::tube(tubes, triangles, r.k);
+    let mut out = vec![part.len() as u32];
+    out.extend(part);
+    out
+}
+
+pub fn encode_words(words: &[u32]) -> Vec<u8> {
+    words.iter().flat_map(|w| w.to_be_bytes()).collect()
+}
+
+/// How many words follow the first word of an answer to this request.
+fn words_after(r: &Request, first: u32) -> usize {
+    let sum = |l: &[u32]| l.iter().map(|&n| n as usize).sum::<usize>();
+    match r.call {
+        _ if first == TOO_LONG => 0,
+        BUILD => 3 + sum(&r.lengths),
+        PLAN => 8 + sum(&r.lengths[6..]),
+        TUBE => first as usize,
+        _ => 0,
+    }
+}
+
+/// A program's whole answer to this request, or none if its output ends first. NaNs in the float buffers are made one.
+pub fn read_answer(r: &Request, input: &mut impl Read) -> io::Result<Option<Vec<u32>>> {
+    let mut first = [0; 4];
+    if !read_whole(input, &mut first)? {
+        return Ok(None);
+    }
+    let first = u32::from_be_bytes(first);
+    let length = 4 * words_after(r, first);
+    let mut bytes = Vec::with_capacity(length.min(1 << 24));
+    if input.take(length as u64).read_to_end(&mut bytes)? < length {
+        return Ok(None);
+    }
+    let mut words = vec![first];
+    words.extend(
+        bytes
+            .chunks(4)
+            .map(|b| u32::from_be_bytes(b.try_into().unwrap())),
+    );
+    for (name, range) in places(r, words.len()) {
+        if NAMES
+            .iter()
+            .position(|&n| n == name)
+            .is_some_and(|i| FLOATS[i])
+        {
+            words[range].iter_mut().for_each(|w| *w = float_word(*w));
+        }
+    }
+    Ok(Some(words))
+}
+
+/// The parts of an answer by name, for reports and for the float places.
+pub fn places(r: &Request, length: usize) -> Vec<(&'static str, std::ops::Range<usize>)> {
+    if length <= 1 {
+        return vec![("number", 0..length)];
+    }
+    let buffers: &[usize] = match r.call {
+        BUILD => &[0, 1, 2, 3, 4, 5, 6, 7],
+        PLAN => &[6, 7],
+        _ => return vec![("length of the part", 0..1), ("part", 1..length)],
+    };
+    let mut out = vec![("number", 0..1), ("counts or carried values", 1..4)];
+    let mut at = 4;
+    if r.call == PLAN {
+        out.push(("the five words", 4..9));
+        at = 9;
+    }
+    for &i in buffers {
+        let end = at + r.lengths[i] as usize;
+        out.push((NAMES[i], at..end));
+        at = end;
+    }
+    out
+}

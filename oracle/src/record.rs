@@ -1,0 +1,99 @@
+//! The recorded answers: a fixed sample of requests of every call and every kind of answer, and what the oracle answers to them. A
+//! program without Rust at hand replays them.
+
+use std::{collections::HashMap, fs, io, path::Path};
+
+use crate::{
+    cases,
+    generator::request,
+    protocol::{BUILD, PLAN, Request, TOO_LONG, TUBE, answer, encode_words},
+};
+
+const SEED: u64 = 20_250_101;
+/// A request and its answer together, in bytes: meshes of a few tubes.
+const MOST_EACH: usize = 14_000;
+
+/// How many generated requests of this call and kind of answer are kept. A part of a tube counts as kind 1.
+fn wanted(call: u8, kind: u32) -> usize {
+    match (call, kind) {
+        (BUILD, 0) => 90,
+        (BUILD, 10) => 1,
+        (BUILD, 11) => 14,
+        (BUILD, _) => 8,
+        (PLAN, 0) => 40,
+        (PLAN, 10) => 1,
+        (PLAN, 11) => 0,
+        (PLAN, _) => 3,
+        _ => 15,
+    }
+}
+
+/// The bench cases of 01, then generated requests of every kind.
+pub fn sample() -> Vec<Request> {
+    let mut sample = cases::requests();
+    let mut kept: HashMap<(u8, u32), usize> = HashMap::new();
+    let total = [BUILD, PLAN, TUBE].map(|call| {
+        let kinds = if call == TUBE { 0..=1 } else { 0..=11 };
+        kinds.map(|kind| wanted(call, kind)).sum::<usize>()
+    });
+    let mut left: usize = total.iter().sum();
+    for i in 0.. {
+        if left == 0 {
+            break;
+        }
+        let r = request(SEED, i);
+        if r.bytes.len() > MOST_EACH {
+            continue;
+        }
+        let a = answer(&r);
+        // Replaying needs no request that a program passes over.
+        if a[0] == TOO_LONG
+            || r.bytes.len() + 4 * a.len() > MOST_EACH + 5000 * (a[0] == 10) as usize
+        {
+            continue;
+        }
+        let kind = if r.call == TUBE { a[0].min(1) } else { a[0] };
+        let count = kept.entry((r.call, kind)).or_default();
+        if *count < wanted(r.call, kind) {
+            *count += 1;
+            left -= 1;
+            sample.push(r);
+        }
+    }
+    sample
+}
+
+/// The two files' contents: all requests, all answers.
+pub fn files() -> (Vec<u8>, Vec<u8>) {
+    let sample = sample();
+    let requests = sample.iter().flat_map(Request::encode).collect();
+    let answers = sample
+        .iter()
+        .flat_map(|r| encode_words(&answer(r)))
+        .collect();
+    (requests, answers)
+}
+
+fn readme(requests: usize) -> String {
+    format!(
+        "# Recorded answers of the oracle
+
+`requests.bin` holds {requests} requests in the stream protocol of the batch program (`../src/protocol.rs` says how they are laid out), `answers.bin`
+the oracle's answers in the same order. They were made by
+
+    cargo run --release --offline --manifest-path oracle/Cargo.toml -- record --out oracle/recorded
+
+which always gives the same bytes: first the bench cases of 01 (`../src/cases.rs`), then requests of the generator's seed {SEED}, kept until
+there are enough of each call and each kind of answer: meshes, refusals 1 to 11, plans, parts of a triangle buffer and empty parts.
+`cargo test` fails when the oracle answers otherwise. The cosines and sines behind the meshes are those of `../../docs/ANGLES.md`.
+"
+    )
+}
+
+pub fn record(out: &Path) -> io::Result<()> {
+    let (requests, answers) = files();
+    fs::create_dir_all(out)?;
+    fs::write(out.join("requests.bin"), &requests)?;
+    fs::write(out.join("answers.bin"), &answers)?;
+    fs::write(out.join("README.md"), readme(sample().len()))
+}

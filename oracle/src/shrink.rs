@@ -1,0 +1,157 @@
+//! Makes a request smaller for as long as it still shows a difference: atoms, segments and chains dropped, coordinates made simple,
+//! lent lengths brought down.
+
+use crate::{
+    job::{NONE, RawJob, fix_length},
+    protocol::{BUILD, PLAN, Request},
+};
+
+/// Each try may start a program, so there is an end to them.
+const MOST_TRIES: usize = 3000;
+
+struct Shrinker<F> {
+    best: Request,
+    shows: F,
+    tries: usize,
+}
+
+impl<F: FnMut(&Request) -> bool> Shrinker<F> {
+    fn take(&mut self, r: Request) -> bool {
+        if r == self.best || self.tries >= MOST_TRIES {
+            return false;
+        }
+        self.tries += 1;
+        let better = (self.shows)(&r);
+        if better {
+            self.best = r;
+        }
+        better
+    }
+
+    fn take_job(&mut self, change: impl FnOnce(&mut RawJob)) -> bool {
+        let Some(mut job) = RawJob::of(&self.best.bytes) else {
+            return false;
+        };
+        change(&mut job);
+        let mut bytes = job.bytes();
+        // A wrong length field is part of what the request shows.
+        bytes[..4].copy_from_slice(&self.best.bytes[..4]);
+        let mut fixed = bytes.clone();
+        fix_length(&mut fixed);
+        let with = |bytes: Vec<u8>| Request {
+            bytes,
+            ..self.best.clone()
+        };
+        let (plain, kept) = (with(fixed), with(bytes));
+        self.take(plain) || self.take(kept)
+    }
+
+    /// Drops stretches of a list, long ones first.
+    fn drop_from<T>(
+        &mut self,
+        length: impl Fn(&RawJob) -> usize,
+        list: impl Fn(&mut RawJob) -> &mut Vec<T>,
+    ) {
+        let count = |s: &Self| RawJob::of(&s.best.bytes).map_or(0, |j| length(&j));
+        let mut stretch = count(self).next_power_of_two();
+        while stretch > 0 {
+            let mut at = 0;
+            while at < count(self) {
+                let end = (at + stretch).min(count(self));
+                if !self.take_job(|j| drop(list(j).drain(at..end))) {
+                    at += stretch;
+                }
+            }
+            stretch /= 2;
+        }
+    }
+
+    fn drop_last_chain(&mut self) -> bool {
+        self.take_job(|j| {
+            let last = j.visible.len().wrapping_sub(1) as u16;
+            j.visible.pop();
+            for a in j.atoms.iter_mut().filter(|a| a.chain == last) {
+                a.chain = if last > 0 { last - 1 } else { NONE };
+            }
+        })
+    }
+
+    /// Renumbers residues so that none is unused.
+    fn close_residues(&mut self) {
+        let Some(job) = RawJob::of(&self.best.bytes) else {
+            return;
+        };
+        for r in (0..job.residues.min(600)).rev() {
+            let used = |j: &RawJob| j.atoms.iter().any(|a| a.residue == r);
+            if RawJob::of(&self.best.bytes).is_some_and(|j| !used(&j)) {
+                self.take_job(|j| {
+                    j.residues = j.residues.saturating_sub(1);
+                    for a in j
+                        .atoms
+                        .iter_mut()
+                        .filter(|a| a.residue != NONE && a.residue > r)
+                    {
+                        a.residue -= 1;
+                    }
+                });
+            }
+        }
+    }
+
+    fn simplify_atoms(&mut self) {
+        let atoms = RawJob::of(&self.best.bytes).map_or(0, |j| j.atoms.len());
+        for i in 0..atoms {
+            self.take_job(|j| j.atoms[i].serial = i as u32 + 1);
+            for axis in 0..3 {
+                for simpler in [|_| 0.0, f64::round, |x: f64| (x * 8.0).round() / 8.0] {
+                    let change = |j: &mut RawJob| {
+                        let x = &mut j.atoms[i].xyz[axis];
+                        *x = simpler(*x);
+                    };
+                    if self.take_job(change) {
+                        break;
+                    }
+                }
+            }
+        }
+    }
+
+    fn lower_lengths(&mut self) {
+        for i in 0..8 {
+            for shift in (0..=16).rev() {
+                let mut r = self.best.clone();
+                r.lengths[i] = r.lengths[i].saturating_sub(1 << shift);
+                self.take(r);
+            }
+        }
+        self.take(Request {
+            k: 0,
+            ..self.best.clone()
+        });
+    }
+}
+
+/// The smallest request found for which `shows` holds; `shows` holds for `r`.
+pub fn shrink(r: &Request, shows: impl FnMut(&Request) -> bool) -> Request {
+    let mut s = Shrinker {
+        best: r.clone(),
+        shows,
+        tries: 0,
+    };
+    if r.call != BUILD && r.call != PLAN {
+        return s.best;
+    }
+    loop {
+        let before = s.best.clone();
+        s.drop_from(|j| j.atoms.len(), |j| &mut j.atoms);
+        s.drop_from(|j| j.segments.len(), |j| &mut j.segments);
+        while s.drop_last_chain() {}
+        s.close_residues();
+        s.simplify_atoms();
+        if s.best == before {
+            break;
+        }
+    }
+    s.lower_lengths();
+    s.best
+}

@@ -1,0 +1,74 @@
+//! The deliberate mistakes with which the tests show that the generator's jobs would catch them. `wrong(m)` is false everywhere but
+//! inside `with(m, ..)` on the same thread.
+
+use std::cell::Cell;
+
+macro_rules! mutations {
+    ($($name:ident $what:literal,)*) => {
+        #[derive(Clone, Copy, Debug, PartialEq, Eq)]
+        pub enum Mutation { $($name,)* }
+
+        impl Mutation {
+            pub const ALL: &[Mutation] = &[$(Mutation::$name,)*];
+            pub fn name(self) -> &'static str {
+                match self { $(Mutation::$name => stringify!($name),)* }
+            }
+            pub fn what(self) -> &'static str {
+                match self { $(Mutation::$name => $what,)* }
+            }
+        }
+    };
+}
+
+mutations! {
+    LastCaInCoils "coils take the last C-alpha of a residue",
+    FirstCaInSegments "segments take the first C-alpha of a residue",
+    FirstOInSegments "segments take the first oxygen of a residue",
+    FirstChain "a residue's chain is that of the first atom giving both",
+    TangentHalved "the 1e-8 test is on the true curve's tangent",
+    EndCapSampleTangent "the end cap has the last sample's tangent",
+    CutAtFive "a step of exactly 5.0 is cut",
+    OneFrameCovers "a segment with one frame covers its residue",
+    HiddenNotCovering "a hidden segment covers nothing",
+    VisibleByLastFrame "the last frame's chain hides a segment",
+    OtherChainNeighbour "a coil run gains a neighbour of another chain",
+    NoChainHidden "a coil residue with no chain is hidden",
+    SheetEndsSmoothed "a sheet's end positions are smoothed too",
+    SumReordered "one sum of the spline is taken in another order",
+    OneHelper "fallback_perp has one helper for all directions",
+    TagAfterHalf "a tag turns after t = 0.5, not at it",
+    BoxLaterOfEquals "a box keeps the later of equal coordinates",
+    BoxOfFirstTwo "a box takes the first two frames only",
+    SevenWithEight "checks 7 and 8 are made together, atom by atom",
+    EightForCaOnly "check 8 looks at C-alphas only",
+    LimitExclusive "a coordinate of exactly 16384 is refused",
+    VertexLimitExclusive "exactly 1,048,576 vertices are refused",
+    ElevenBeforeTen "a short output buffer is reported before the vertex limit",
+    BoxesNotChecked "a short box buffer is not refused",
+    ScratchLeftOnEleven "refusal 11 leaves the scratch as it was",
+    ScratchAllCleared "the scratch past 8R and 32R is cleared too",
+    PlanLastPastK "a plan with k past the last tube gives the last tube's words",
+    TubeWraps "the tube call finds its places modulo 2^32",
+    TubeUnlimited "the tube call takes n above 16,384, modulo 2^32",
+}
+
+thread_local! {
+    static NOW: Cell<Option<Mutation>> = const { Cell::new(None) };
+}
+
+#[inline]
+pub fn wrong(m: Mutation) -> bool {
+    NOW.get() == Some(m)
+}
+
+/// What `f` gives with this mistake in force.
+pub fn with<R>(m: Option<Mutation>, f: impl FnOnce() -> R) -> R {
+    let before = NOW.replace(m);
+    let r = f();
+    NOW.set(before);
+    r
+}
+
+pub fn by_name(name: &str) -> Option<Mutation> {
+    Mutation::ALL.iter().copied().find(|m| m.name() == name)
+}

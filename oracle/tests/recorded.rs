@@ -1,0 +1,61 @@
+//! The recorded answers are what the oracle answers now, and hold every call and every kind of answer.
+
+use std::{collections::HashSet, fs, path::PathBuf};
+
+use oracle::{
+    angles,
+    protocol::{BUILD, PLAN, Request, TUBE, answer, encode_words, read_answer},
+    record,
+};
+
+fn file(name: &str) -> Vec<u8> {
+    let path = PathBuf::from(env!("CARGO_MANIFEST_DIR"))
+        .join("recorded")
+        .join(name);
+    fs::read(&path).unwrap_or_else(|e| panic!("{}: {e}", path.display()))
+}
+
+#[test]
+fn the_files_are_what_record_writes() {
+    if let Some(why) = angles::differs() {
+        panic!("{why}; the recorded answers are those of docs/ANGLES.md");
+    }
+    let (requests, answers) = record::files();
+    // Not assert_eq: it would print both files.
+    assert!(requests == file("requests.bin"), "requests.bin differs");
+    assert!(answers == file("answers.bin"), "answers.bin differs");
+}
+
+#[test]
+fn they_hold_every_kind_and_are_small() {
+    let (requests, answers) = (file("requests.bin"), file("answers.bin"));
+    assert!(requests.len() + answers.len() < 2_000_000);
+    let (mut input, mut output) = (&requests[..], &answers[..]);
+    let mut kinds = HashSet::new();
+    while let Some(r) = Request::read(&mut input).unwrap() {
+        let a = read_answer(&r, &mut output).unwrap().expect("an answer");
+        let kind = if r.call == TUBE { a[0].min(1) } else { a[0] };
+        kinds.insert((r.call, kind));
+    }
+    assert!(output.is_empty(), "more answers than requests");
+    let mut wanted: HashSet<(u8, u32)> = (0..=11).map(|n| (BUILD, n)).collect();
+    wanted.extend((0..=10).map(|n| (PLAN, n)));
+    wanted.extend([(TUBE, 0), (TUBE, 1)]);
+    assert_eq!(kinds, wanted);
+}
+
+#[test]
+fn a_stream_is_read_as_it_was_written() {
+    let mut input = &record::files().0[..];
+    for expected in record::sample() {
+        let r = Request::read(&mut input).unwrap().expect("a request");
+        assert_eq!(r, expected);
+        let words = answer(&r);
+        let read = read_answer(&r, &mut &encode_words(&words)[..]).unwrap();
+        assert_eq!(read, Some(words));
+    }
+    assert_eq!(Request::read(&mut input).unwrap(), None);
+    // Input that ends inside a request ends it.
+    let whole = record::sample()[3].encode();
+    assert_eq!(Request::read(&mut &whole[..whole.len() - 1]).unwrap(), None);
+}
