@@ -6,7 +6,7 @@ use native.Mathlib.Nat.{add-zero, add-suc, suc-add, zero-add, not-suc-le-zero}
 use native.Mathlib.Numerals.{add-one}
 use native.Mathlib.Omega.{arith}
 use lib.ListN.{length, take, drop, set, getD, length-append, length-set}
-use lib.Seq.{sets, sets-eq, getD-set-other, getD-set-same}
+use lib.Seq.{sets, sets-eq, getD-set-other, getD-set-same, length-take-le, take-append-seam, drop-at}
 use Rattle.buffers.specs.Put.{put, upto}
 
 module _ {ℓ} {A : Type ℓ} where
@@ -105,3 +105,10 @@ module _ {ℓ} {A : Type ℓ} where
 
   pub put-eq : (l : List A) (i : ℕ) (xs : List A) → i + length xs ≤ length l → put l i xs ≡ take i l ++ xs ++ drop (i + length xs) l
   put-eq l i xs h = put-sets l i xs ∙ sets-eq xs l i h
+
+  -- the part that was written is what was written
+  pub put-there : (l : List A) (i : ℕ) (xs : List A) → i + length xs ≤ length l → take (length xs) (drop i (put l i xs)) ≡ xs
+  put-there l i xs h =
+      let rest = drop (i + length xs) l in
+      ap (λ (m : List A). take (length xs) (drop i m)) (put-eq l i xs h ∙ append-assoc (take i l) xs rest)
+      ∙ ap (take (length xs)) (drop-at (take i l) (xs ++ rest) i (length-take-le i l (omega arith))) ∙ take-append-seam xs rest

@@ -29,7 +29,7 @@ unfolding band
 band-size p a b = upto-size (bandSide p a b) 2 p (λ k. refl)
 
 pub bands-size : (p o m : ℕ) → length (upto (bandAt p o) m) ≡ 3 * (m * (p * 2))
-bands-size p o m = upto-size (bandAt p o) (p * 2) m (λ j. band-size p (ring p o j) (ring p o (suc j)))
+bands-size p o m = upto-size (bandAt p o) (p * 2) m (λ j. band-size p _ _)
 
 pub stack-size : (p o m : ℕ) → length (stack p o m) ≡ 3 * (2 * p * m + 2 * p)
 unfolding stack

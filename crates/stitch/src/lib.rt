@@ -10,7 +10,7 @@ use buffers::put_words;
 // A cap's triangle at one side: this side's vertex i0 and the next side's i1, the other way round where the cap is inward.
 fn cap_side(triangles: &mut [u32], at: usize, center: u32, base: u32, k: u32, inward: bool)
     requires { ⌜ at + 3 ≤ length (now triangles) ⌝ }
-    requires { ⌜ (k < 8) × (base + 8 ≤ 4294967296) ⌝ }
+    requires { ⌜ (k < 8) × (base + 8 < 4294967296) ⌝ }
     ensures { λ _. ⌜ now (triangles .exit) ≡ put (now (triangles .entry)) at (capSide 8 inward center base k) ⌝ }
 {
     let i0 = base + k;
@@ -25,7 +25,7 @@ fn cap_side(triangles: &mut [u32], at: usize, center: u32, base: u32, k: u32, in
 // The cap on the ring that begins at base.
 fn emit_cap(triangles: &mut [u32], at: usize, center: u32, base: u32, inward: bool)
     requires { ⌜ at + 24 ≤ length (now triangles) ⌝ }
-    requires { ⌜ base + 8 ≤ 4294967296 ⌝ }
+    requires { ⌜ base + 8 < 4294967296 ⌝ }
     ensures { λ _. ⌜ now (triangles .exit) ≡ put (now (triangles .entry)) at (cap 8 inward center base) ⌝ }
 {
     let mut k: u32 = 0;
@@ -41,7 +41,7 @@ fn emit_cap(triangles: &mut [u32], at: usize, center: u32, base: u32, inward: bo
 // too: here those are written apart.)
 fn append_ring_and_stitch(triangles: &mut [u32], at: usize, a: u32, b: u32)
     requires { ⌜ at + 48 ≤ length (now triangles) ⌝ }
-    requires { ⌜ (a + 8 ≤ 4294967296) × (b + 8 ≤ 4294967296) ⌝ }
+    requires { ⌜ (a + 8 < 4294967296) × (b + 8 < 4294967296) ⌝ }
     ensures { λ _. ⌜ now (triangles .exit) ≡ put (now (triangles .entry)) at (band 8 a b) ⌝ }
 {
     let mut k: u32 = 0;

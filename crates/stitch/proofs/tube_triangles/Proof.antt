@@ -1,12 +1,12 @@
 -- Assumes nothing.
-use mathlib.Core.Path.{_≡_, refl, sym, ap, _∙_}
+use mathlib.Core.Path.{_≡_, refl, sym, ap, ap₂, _∙_}
 use Prim.Native.Nat.{suc, _+_, _*_, _-_, _≤_}
 use native.Mathlib.Numerals.{add-one}
 use native.Mathlib.Omega.{arith}
 use borrow.Author.Needs.{needs}
 use Rattle.buffers.specs.Put.{put, upto}
 use Rattle.buffers.proofs.Puts.{turn, kept}
-use Rattle.edges.specs.Tube.{ring, bandAt}
+use Rattle.edges.specs.Tube.{ring, band, bandAt}
 use Rattle.edges.proofs.Stack.{band-size}
 use Rattle.stitch.proofs.Assembly.{assembled}
 use Rattle.stitch.proofs.tube_triangles.Statement.{statement}
@@ -66,7 +66,7 @@ loop-again c = let loop = c .before .before .before .before .before .loop in
       omega arith,
       omega arith,
       omega arith,
-      turn (bandAt 8 (args .first)) 48 (λ j. band-size 8 _ _) _ _ _ (loop .j) (c .before .before .append-ring-and-stitch .ensures ∙ rw (loop .inv .2, loop .inv .3)) (loop .inv .6) (loop .inv .1),
+      turn (bandAt 8 (args .first)) 48 (λ j. band-size 8 _ _) _ _ _ (loop .j) (c .before .before .append-ring-and-stitch .ensures ∙ ap (put (loop .triangles) (loop .o)) (ap₂ (band 8) (loop .inv .2) (loop .inv .3))) (loop .inv .6) (loop .inv .1),
     )
 
 emit-cap-requires-2 : tie.Need-emit-cap-requires-2 Inv-loop μ-loop
