@@ -15,9 +15,15 @@ use crate::{
     angles,
     generator::request,
     job::{NONE, RawJob},
-    protocol::{BUILD, NAMES, PLAN, Request, TOO_LONG, TUBE, answer, places, read_answer},
+    protocol::{
+        BUILD, NAMES, PLAN, Request, TOO_LONG, TUBE, answer, decode_words, places, read_answer,
+    },
     shrink::shrink,
 };
+
+/// How many lines of a difference are shown; its file has them all.
+const SHOWN: usize = 40;
+const HEX: &str = "the request in hexadecimal";
 
 pub struct Options {
     /// The program and its arguments.
@@ -193,7 +199,8 @@ fn report(o: &Options, index: u64, r: &Request, got: Option<Vec<u32>>) -> Result
     }
     text.push_str(&difference(&small, &answer(&small), got.as_deref()));
     text.push_str(&dump(&small));
-    text.push_str("\nthe request in hexadecimal:\n");
+    text.push_str(HEX);
+    text.push_str(":\n");
     for line in small.encode().chunks(32) {
         let hex: Vec<String> = line.iter().map(|b| format!("{b:02X}")).collect();
         text.push_str(&hex.join(" "));
@@ -201,11 +208,11 @@ fn report(o: &Options, index: u64, r: &Request, got: Option<Vec<u32>>) -> Result
     }
     let path = o.out.join(format!("difference-{}-{index}.txt", o.seed));
     fs::write(&path, &text).map_err(|e| format!("cannot write {}: {e}", path.display()))?;
-    println!(
-        "{}written to {}",
-        text.split("\nthe request").next().unwrap_or(""),
-        path.display()
-    );
+    let words = text.lines().take_while(|l| !l.starts_with(HEX));
+    for line in words.take(SHOWN) {
+        println!("{line}");
+    }
+    println!("written whole to {}", path.display());
     Ok(())
 }
 
@@ -238,6 +245,15 @@ pub fn dump(r: &Request) -> String {
     let mut out = format!("call {}, k {}, {} bytes\n", r.call, r.k, r.bytes.len());
     for (name, length) in NAMES.iter().zip(r.lengths) {
         out.push_str(&format!("  {name}: {length}\n"));
+    }
+    if r.call == TUBE {
+        let tubes = &decode_words(&r.bytes)[..];
+        for (i, words) in tubes[..tubes.len().min(r.lengths[4] as usize)]
+            .chunks(5)
+            .enumerate()
+        {
+            out.push_str(&format!("tube {i}: {words:?}\n"));
+        }
     }
     let Some(job) = RawJob::of(&r.bytes).filter(|_| r.call == BUILD || r.call == PLAN) else {
         return out;

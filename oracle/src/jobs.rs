@@ -441,6 +441,21 @@ fn near_the_vertex_limit(rng: &mut Rng) -> RawJob {
     with_vertices(v, most).expect("such lengths exist")
 }
 
+/// As many vertices as a batch program must take, or nearly, along a path of steps of 3.8.
+fn full(rng: &mut Rng) -> RawJob {
+    let v = rng.pick(&[32_714, 33_998, 34_000]);
+    let mut job = with_vertices(v, 512).expect("such lengths exist");
+    let mut p = [0.0; 3];
+    for a in &mut job.atoms {
+        p = thousandths(plus(p, rng.direction(), 3.8));
+        a.xyz = p;
+    }
+    for s in &mut job.segments {
+        s.kind = rng.below(3) as u8;
+    }
+    job
+}
+
 /// A job that passes checks 1 to 8, but for those made at the limits.
 pub fn job(rng: &mut Rng) -> RawJob {
     match rng.below(1000) {
@@ -459,7 +474,8 @@ pub fn job(rng: &mut Rng) -> RawJob {
         900..=959 => with_nothing(rng),
         960..=992 => at_the_limits(rng),
         993..=994 => crowd(rng),
-        995..=997 => near_the_vertex_limit(rng),
+        995..=996 => near_the_vertex_limit(rng),
+        997 => full(rng),
         _ => {
             let residues = rng.between(200, 500);
             protein(rng, residues)

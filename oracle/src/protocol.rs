@@ -30,12 +30,12 @@ pub const NAMES: [&str; 8] = [
 /// Which of the eight buffers hold floats.
 pub const FLOATS: [bool; 8] = [true, true, false, false, false, true, false, true];
 
-/// The least arrays that a batch program has: 34,000 vertices with their triangles, 1,024 tubes, 512 residues.
+/// The least arrays that a batch program has: 34,000 vertices with their triangles (2V - 4 for one tube), 1,024 tubes, 512 residues.
 pub const MOST: [u32; 8] = [
     3 * 34_000,
     3 * 34_000,
     34_000,
-    3 * 2 * 34_000,
+    3 * (2 * 34_000 - 4),
     5 * 1_024,
     6 * 1_024,
     8 * 512,
@@ -86,12 +86,11 @@ impl Request {
 
     fn too_long(&self) -> bool {
         let past = |i: usize| self.lengths[i] > MOST[i];
+        let places = self.lengths[4] as usize + self.lengths[3] as usize;
         match self.call {
-            BUILD | PLAN => (0..8).any(past) || self.bytes.len() > MOST_BYTES,
-            TUBE => {
-                let places = self.lengths[4] as usize + self.lengths[3] as usize;
-                past(3) || past(4) || self.bytes.len() != 4 * places
-            }
+            BUILD | PLAN | TUBE if self.bytes.len() > MOST_BYTES || (0..8).any(past) => true,
+            BUILD | PLAN => false,
+            TUBE => self.bytes.len() != 4 * places,
             _ => true,
         }
     }
@@ -192,16 +191,20 @@ fn answer_plan(r: &Request) -> Vec<u32> {
 }
 
 fn answer_tube(r: &Request) -> Vec<u32> {
-    let words: Vec<u32> = r
-        .bytes
-        .chunks(4)
-        .map(|b| u32::from_be_bytes(b.try_into().unwrap()))
-        .collect();
+    let words = decode_words(&r.bytes);
     let (tubes, triangles) = words.split_at(r.lengths[4] as usize);
     let part = calls::tube(tubes, triangles, r.k);
     let mut out = vec![part.len() as u32];
     out.extend(part);
     out
+}
+
+/// Whole words; bytes past the last one are left out.
+pub fn decode_words(bytes: &[u8]) -> Vec<u32> {
+    bytes
+        .chunks_exact(4)
+        .map(|b| u32::from_be_bytes(b.try_into().unwrap()))
+        .collect()
 }
 
 pub fn encode_words(words: &[u32]) -> Vec<u8> {
@@ -233,11 +236,7 @@ pub fn read_answer(r: &Request, input: &mut impl Read) -> io::Result<Option<Vec<
         return Ok(None);
     }
     let mut words = vec![first];
-    words.extend(
-        bytes
-            .chunks(4)
-            .map(|b| u32::from_be_bytes(b.try_into().unwrap())),
-    );
+    words.extend(decode_words(&bytes));
     for (name, range) in places(r, words.len()) {
         if NAMES
             .iter()
@@ -252,13 +251,11 @@ pub fn read_answer(r: &Request, input: &mut impl Read) -> io::Result<Option<Vec<
 
 /// The parts of an answer by name, for reports and for the float places.
 pub fn places(r: &Request, length: usize) -> Vec<(&'static str, std::ops::Range<usize>)> {
-    if length <= 1 {
-        return vec![("number", 0..length)];
-    }
     let buffers: &[usize] = match r.call {
+        TUBE => return vec![("length of the part", 0..1), ("part", 1..length)],
+        _ if length == 1 => return vec![("number", 0..1)],
         BUILD => &[0, 1, 2, 3, 4, 5, 6, 7],
-        PLAN => &[6, 7],
-        _ => return vec![("length of the part", 0..1), ("part", 1..length)],
+        _ => &[6, 7],
     };
     let mut out = vec![("number", 0..1), ("counts or carried values", 1..4)];
     let mut at = 4;

@@ -6,7 +6,7 @@ use std::{collections::HashMap, fs, io, path::Path};
 use crate::{
     cases,
     generator::request,
-    protocol::{BUILD, PLAN, Request, TOO_LONG, TUBE, answer, encode_words},
+    protocol::{BUILD, NAMES, PLAN, Request, TOO_LONG, TUBE, answer, encode_words},
 };
 
 const SEED: u64 = 20_250_101;
@@ -74,7 +74,15 @@ pub fn files() -> (Vec<u8>, Vec<u8>) {
     (requests, answers)
 }
 
-fn readme(requests: usize) -> String {
+fn readme(sample: &[Request]) -> String {
+    let requests = sample.len();
+    let longest = |f: &dyn Fn(&Request) -> usize| sample.iter().map(f).max().unwrap_or(0);
+    let lengths: Vec<String> = NAMES
+        .iter()
+        .enumerate()
+        .map(|(i, name)| format!("{name} {}", longest(&|r| r.lengths[i] as usize)))
+        .collect();
+    let (lengths, bytes) = (lengths.join(", "), longest(&|r| r.bytes.len()));
     format!(
         "# Recorded answers of the oracle
 
@@ -85,6 +93,7 @@ the oracle's answers in the same order. They were made by
 
 which always gives the same bytes: first the bench cases of 01 (`../src/cases.rs`), then requests of the generator's seed {SEED}, kept until
 there are enough of each call and each kind of answer: meshes, refusals 1 to 11, plans, parts of a triangle buffer and empty parts.
+The longest buffers lent are, in places: {lengths}; the longest bytes of a request {bytes}.
 `cargo test` fails when the oracle answers otherwise. The cosines and sines behind the meshes are those of `../../docs/ANGLES.md`.
 "
     )
@@ -95,5 +104,5 @@ pub fn record(out: &Path) -> io::Result<()> {
     fs::create_dir_all(out)?;
     fs::write(out.join("requests.bin"), &requests)?;
     fs::write(out.join("answers.bin"), &answers)?;
-    fs::write(out.join("README.md"), readme(sample().len()))
+    fs::write(out.join("README.md"), readme(&sample()))
 }

@@ -3,7 +3,7 @@
 
 use crate::{
     job::{NONE, RawJob, fix_length},
-    protocol::{BUILD, PLAN, Request},
+    protocol::{BUILD, PLAN, Request, TUBE},
 };
 
 /// Each try may start a program, so there is an end to them.
@@ -116,6 +116,55 @@ impl<F: FnMut(&Request) -> bool> Shrinker<F> {
         }
     }
 
+    /// Bytes that are no job of their counts: cut from the end, then made 0.
+    fn cut_bytes(&mut self) {
+        for shift in (0..18).rev() {
+            loop {
+                let mut bytes = self.best.bytes.clone();
+                bytes.truncate(bytes.len().saturating_sub(1 << shift));
+                let mut fixed = bytes.clone();
+                fix_length(&mut fixed);
+                let with = |bytes| Request {
+                    bytes,
+                    ..self.best.clone()
+                };
+                let (plain, kept) = (with(fixed), with(bytes));
+                if !self.take(plain) && !self.take(kept) {
+                    break;
+                }
+            }
+        }
+        for i in 0..self.best.bytes.len().min(200) {
+            let mut r = self.best.clone();
+            r.bytes[i] = 0;
+            self.take(r);
+        }
+    }
+
+    /// The two buffers of a tube call: places dropped from their ends, then words made 0.
+    fn cut_places(&mut self) {
+        for buffer in [3, 4] {
+            for shift in (0..16).rev() {
+                loop {
+                    let mut r = self.best.clone();
+                    let less = r.lengths[buffer].min(1 << shift);
+                    let tubes = 4 * r.lengths[4] as usize;
+                    let end = if buffer == 4 { tubes } else { r.bytes.len() };
+                    r.bytes.drain(end - 4 * less as usize..end);
+                    r.lengths[buffer] -= less;
+                    if !self.take(r) {
+                        break;
+                    }
+                }
+            }
+        }
+        for i in 0..(self.best.bytes.len() / 4).min(200) {
+            let mut r = self.best.clone();
+            r.bytes[4 * i..4 * i + 4].fill(0);
+            self.take(r);
+        }
+    }
+
     fn lower_lengths(&mut self) {
         for i in 0..8 {
             for shift in (0..=16).rev() {
@@ -138,8 +187,16 @@ pub fn shrink(r: &Request, shows: impl FnMut(&Request) -> bool) -> Request {
         shows,
         tries: 0,
     };
-    if r.call != BUILD && r.call != PLAN {
-        return s.best;
+    match r.call {
+        BUILD | PLAN => {}
+        TUBE => {
+            s.cut_places();
+            return s.best;
+        }
+        _ => return s.best,
+    }
+    if RawJob::of(&r.bytes).is_none() {
+        s.cut_bytes();
     }
     loop {
         let before = s.best.clone();
