@@ -1,10 +1,10 @@
 -- Counts of edges. Assumes nothing.
 use mathlib.Core.Path.{_≡_, refl, ap, _∙_}
-use mathlib.Core.Logic.{_⊎_, inl, inr}
+use mathlib.Core.Logic.{_⊎_, inl, inr, ⊎-elim}
 use mathlib.Core.List.{List, [], _∷_, _++_}
 use mathlib.Core.Bool.{Bool, true, false, _&&_, cond}
 use Prim.Native.Nat.{ℕ, zero, suc, _+_, _*_, _-_, _≤_, _<_}
-use native.Mathlib.Nat.{eq-zero-or-pos, eq-or-lt-of-le, mod-eq-of-lt, mod-self}
+use native.Mathlib.Nat.{eq-zero-or-pos, le-of-sub-eq-zero, sub-pos-iff-lt, eq-or-lt-of-le, mod-eq-of-lt, mod-self}
 use native.Mathlib.Omega.{arith}
 use lib.Dec.{T, eqb, eqb→eq, eqb-refl}
 use lib.ListN.{length}
@@ -12,6 +12,11 @@ use Rattle.buffers.specs.Put.{upto}
 use Rattle.buffers.proofs.Puts.{length-upto}
 use Rattle.edges.specs.Sound.{edges, is, occurs}
 use Rattle.edges.specs.Tube.{next}
+
+-- ---- two numbers
+
+pub lt-or-le : (m n : ℕ) → (m < n) ⊎ (n ≤ m)
+lt-or-le m n = ⊎-elim (λ e. inr (le-of-sub-eq-zero e)) (λ h. inl (sub-pos-iff-lt .0 h)) (eq-zero-or-pos (n - m))
 
 -- ---- one edge against another
 

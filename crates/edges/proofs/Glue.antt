@@ -10,9 +10,9 @@ use lib.ListN.{length, length-append, List·getD-append}
 use lib.Seq.{getD-append-add}
 use Rattle.edges.specs.Sound.{occurs, EdgesPaired, Sound, Part}
 use Rattle.edges.specs.Tube.{stack}
-use Rattle.edges.proofs.Count.{occurs-append}
+use Rattle.edges.proofs.Count.{lt-or-le, occurs-append}
 use Rattle.edges.proofs.Piece.{join}
-use Rattle.edges.proofs.Stack.{lt-or-le, stack-size, closed-stack}
+use Rattle.edges.proofs.Stack.{stack-size, closed-stack}
 use Rattle.edges.proofs.Corners.{sound, closed, ends}
 
 -- the same vertices and triangles, counted another way

@@ -9,7 +9,7 @@ use borrow.Author.Tests.{lt-ltb, le-ltb}
 use mathlib.Core.Logic.{⊎-elim}
 use Rattle.buffers.specs.Put.{upto}
 use Rattle.edges.specs.Tube.{capSide, bandSide, cap, band, ring, bandAt, startCentre, endCentre, stack, tube, vertices, mesh, renumbered}
-use Rattle.edges.proofs.Stack.{lt-or-le}
+use Rattle.edges.proofs.Count.{lt-or-le}
 
 map-upto : (h : ℕ → ℕ) (f g : ℕ → List ℕ) (n : ℕ) → ((k : ℕ) → map h (f k) ≡ g k) → map h (upto f n) ≡ upto g n
 unfolding upto

@@ -1,18 +1,18 @@
 -- The surface of a tube: it grows ring by ring, and is closed at its end. Assumes nothing.
 use mathlib.Core.Path.{_≡_, refl, sym, _∙_}
-use mathlib.Core.Logic.{_⊎_, inl, inr, ⊎-elim}
+use mathlib.Core.Logic.{_⊎_, ⊎-elim}
 use mathlib.Core.Bool.{Bool, true, false}
 use mathlib.Core.List.{List, _++_}
 use Prim.Native.Nat.{ℕ, zero, suc, _+_, _*_, _-_, _≤_, _<_}
-use native.Mathlib.Nat.{eq-zero-or-pos, eq-or-lt-of-le, le-of-sub-eq-zero, sub-pos-iff-lt}
+use native.Mathlib.Nat.{eq-or-lt-of-le}
 use native.Mathlib.Omega.{arith}
 use lib.ListN.{length, length-append}
 use Rattle.buffers.specs.Put.{upto}
 use Rattle.edges.specs.Sound.{is, occurs}
 use Rattle.edges.specs.Tube.{next, capSide, bandSide, cap, band, ring, bandAt, startCentre, endCentre, stack}
-use Rattle.edges.proofs.Count.{is-flip, sum-cong, sum-add, sum-add₃, around, occurs-append, occurs-upto, upto-size}
+use Rattle.edges.proofs.Count.{lt-or-le, is-flip, sum-cong, sum-add, sum-add₃, around, occurs-append, occurs-upto, upto-size}
 use Rattle.edges.proofs.Family.{family-hit}
-use Rattle.edges.proofs.Piece.{Piece, join, loop, spokes, straight, slant, loop-piece, spokes-piece, straight-piece, slant-piece, slant-straight}
+use Rattle.edges.proofs.Piece.{Piece, join, loop, spokes, rungs, loop-piece, spokes-piece, rungs-piece}
 
 -- ---- sizes
 
@@ -55,7 +55,7 @@ module _ (p : ℕ) (some-side : 0 < p) (x y : ℕ) where
       ∙ sum-cong _ _ p (λ k _. omega (arith, is-flip x y c (a + next p k), is-flip x y (a + next p k) (a + k), is-flip x y (a + k) c))
       ∙ sym (occurs-upto y x (capSide p false c a) 1 p (λ k. refl))
 
-  band-count : (a b : ℕ) → occurs x y (band p a b) ≡ slant p a b x y + slant p a b y x + (straight p a b x y + straight p a b y x) + (loop p a x y + loop p b y x)
+  band-count : (a b : ℕ) → occurs x y (band p a b) ≡ rungs p a b x y + (loop p a x y + loop p b y x)
   unfolding occurs band
   band-count a b =
       occurs-upto x y (bandSide p a b) 2 p (λ k. refl)
@@ -77,13 +77,11 @@ pub record Closed (o v : ℕ) (G : ℕ → ℕ → ℕ) : Type 0 where
   pub piece : Piece o v o v G
   pub used : (u : ℕ) → o ≤ u → u < v → (w : ℕ) × (0 < G u w)
 
-pub lt-or-le : (m n : ℕ) → (m < n) ⊎ (n ≤ m)
-lt-or-le m n = ⊎-elim (λ e. inr (le-of-sub-eq-zero e)) (λ h. inl (sub-pos-iff-lt .0 h)) (eq-zero-or-pos (n - m))
-
+-- a vertex up to the last is the last or comes before it
 at-end : (m n : ℕ) → m ≤ n → (m ≡ n) ⊎ (m < n)
 at-end m n h = eq-or-lt-of-le h
 
-module _ (p o : ℕ) (big : 3 ≤ p) where
+module _ (p o : ℕ) (sides : 3 ≤ p) where
   bands : ℕ → List ℕ
   bands j = upto (bandAt p o) j
 
@@ -113,8 +111,8 @@ module _ (p o : ℕ) (big : 3 ≤ p) where
 
   closed-first : Closed o (o + (p * 1 + 1)) (upTo 0)
   closed-first = record {
-    piece = join o _ o _ (upTo 0) (loop-piece p big o) (spokes-piece p big o (o + p) (omega arith))
-        (λ x y h i. omega (arith, loop-piece p big o .lies x y h, spokes-piece p big o (o + p) (omega arith) .lies x y i))
+    piece = join o _ o _ (upTo 0) (loop-piece p sides o) (spokes-piece p sides o (o + p) (omega arith))
+        (λ x y h i. omega (arith, loop-piece p sides o .lies x y h, spokes-piece p sides o (o + p) (omega arith) .lies x y i))
         (λ x y l. omega arith) (λ x y l. omega arith) first-count;
     used = λ u l h. ⊎-elim
         (λ e. (o + 0, rw e (omega (arith, first-count (o + p) (o + 0), family-hit o (λ k. o + p) p 0 (omega arith)))))
@@ -122,12 +120,9 @@ module _ (p o : ℕ) (big : 3 ≤ p) where
         (at-end u (o + p) (omega arith));
   }
 
-  -- one more ring: two kinds of edges between the rings, and the new ring's own, each with its reverse
+  -- one more ring: the edges between the rings, and the new ring's own, each with its reverse
   next-count : (j x y : ℕ) → upTo (suc j) x y
-      ≡ upTo j x y
-      + (slant p (ring p o j) (ring p o (suc j)) x y + slant p (ring p o j) (ring p o (suc j)) y x
-      + (straight p (ring p o j) (ring p o (suc j)) x y + straight p (ring p o j) (ring p o (suc j)) y x))
-      + (loop p (ring p o (suc j)) x y + loop p (ring p o (suc j)) y x)
+      ≡ upTo j x y + rungs p (ring p o j) (ring p o (suc j)) x y + (loop p (ring p o (suc j)) x y + loop p (ring p o (suc j)) y x)
   unfolding upTo
   next-count j x y = omega (arith, bands-count j x y, band-count p (omega arith) x y (ring p o j) (ring p o (suc j)))
 
@@ -136,13 +131,12 @@ module _ (p o : ℕ) (big : 3 ≤ p) where
       let a = ring p o j in
       let b = ring p o (suc j) in
       let r = ring-next j in
-      let rungs : Piece a (a + p) b (b + p) (λ x y. slant p a b x y + slant p a b y x + (straight p a b x y + straight p a b y x)) =
-      join a _ b _ _ (slant-piece p big a b (r .1)) (straight-piece p big a b (r .1)) (slant-straight p big a b (r .1)) (λ x y l. l) (λ x y l. l) (λ x y. refl) in
-      let open-end : Piece o b o (b + p) (λ x y. upTo j x y + (slant p a b x y + slant p a b y x + (straight p a b x y + straight p a b y x))) =
-      join o _ o _ _ (c .piece) rungs (λ x y h i. omega (arith, c .piece .lies x y h, rungs .lies x y i)) (λ x y l. omega arith) (λ x y l. omega arith) (λ x y. refl) in
+      let between = rungs-piece p sides a b (r .1) in
+      let open-end : Piece o b o (b + p) (λ x y. upTo j x y + rungs p a b x y) =
+      join o _ o _ _ (c .piece) between (λ x y h i. omega (arith, c .piece .lies x y h, between .lies x y i)) (λ x y l. omega arith) (λ x y l. omega arith) (λ x y. refl) in
       record {
-        piece = join o _ o _ (upTo (suc j)) open-end (loop-piece p big b)
-            (λ x y h i. omega (arith, open-end .lies x y h, loop-piece p big b .lies x y i)) (λ x y l. omega arith) (λ x y l. omega arith) (next-count j);
+        piece = join o _ o _ (upTo (suc j)) open-end (loop-piece p sides b)
+            (λ x y h i. omega (arith, open-end .lies x y h, loop-piece p sides b .lies x y i)) (λ x y l. omega arith) (λ x y l. omega arith) (next-count j);
         used = λ u l h. ⊎-elim
             (λ i. let w = c .used u l (omega arith) in (w .0, omega (arith, next-count j u (w .0), w .1)))
             (λ i. let w = loop-used b u (omega arith) (omega arith) in (w .0, omega (arith, next-count j u (w .0), w .1)))
@@ -174,7 +168,7 @@ module _ (p o : ℕ) (big : 3 ≤ p) where
       let c : ℕ = endCentre p o m in
       let r = ring-next m in
       let up = closed-upTo m in
-      let end = spokes-piece p big a c (omega arith) in
+      let end = spokes-piece p sides a c (omega arith) in
       record {
         piece = join o _ o _ _ (up .piece) end (λ x y h i. omega (arith, up .piece .lies x y h, end .lies x y i)) (λ x y l. omega arith) (λ x y l. omega arith) (stack-count m);
         used = λ u l h. ⊎-elim

@@ -11,7 +11,8 @@ use lib.ListN.{length, take, drop, length-append}
 use lib.Seq.{take-append-seam, drop-at}
 use Rattle.edges.specs.Sound.{occurs, EdgesPaired, Sound, Part}
 use Rattle.edges.specs.Tube.{rings, vertices, triangles, stack, tube, mesh, meshVertices, meshTriangles, renumbered}
-use Rattle.edges.proofs.Stack.{lt-or-le, stack-size}
+use Rattle.edges.proofs.Count.{lt-or-le}
+use Rattle.edges.proofs.Stack.{stack-size}
 use Rattle.edges.proofs.Glue.{recount, empty-sound, stack-sound, glue, glue-paired, unglue, joined}
 use Rattle.edges.proofs.Owned.{EdgesOwned, owned, paired}
 use Rattle.edges.proofs.Renumber.{renumber, renumber-part, renumber-paired}

@@ -5,7 +5,7 @@ use Prim.Native.Nat.{ℕ, _*_}
 use lib.Dec.{eqb}
 use lib.ListN.{length, take, drop}
 use Rattle.buffers.specs.Put.{upto}
-use Rattle.edges.specs.Tube.{fromTwo, rings, vertices, triangles, ring, startCentre, endCentre, next, capSide, bandSide, cap, band, bandAt, stack, tube, mesh, meshVertices, meshTriangles}
+use Rattle.edges.specs.Tube.{rings, vertices, triangles, ring, next, cap, band, stack, tube, meshVertices, meshTriangles}
 
 -- the same numbers in the same order
 unfoldable pub sameWords : List ℕ → List ℕ → Bool
