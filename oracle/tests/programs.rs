@@ -7,7 +7,11 @@ use std::{
     process::{Command, Output, Stdio},
 };
 
-use oracle::{cases::two_residues, record};
+use oracle::{
+    cases::{plan_request, tube_request, two_residues},
+    protocol::{MOST, Request, answer, encode_words},
+    record,
+};
 
 const ORACLE: &str = env!("CARGO_BIN_EXE_oracle");
 
@@ -89,6 +93,28 @@ fn answers_of_the_recorded_requests() {
     let cut = run(&["answer"], &requests[..requests.len() - 1]);
     assert!(cut.status.success());
     assert!(cut.stdout.len() < answers.len() && answers.starts_with(&cut.stdout));
+}
+
+#[test]
+fn requests_that_are_passed_over() {
+    let good = plan_request(&two_residues(), 0);
+    let unknown = Request {
+        call: 4,
+        ..good.clone()
+    };
+    let mut too_long = good.clone();
+    too_long.lengths[6] = MOST[6] + 1;
+    // A word is missing at the end of the triangles.
+    let mut short = tube_request(2, 0, 432, 0);
+    short.bytes.truncate(4 * 436);
+    let input: Vec<u8> = [&unknown, &too_long, &short, &good]
+        .iter()
+        .flat_map(|r| r.encode())
+        .collect();
+    let mut expected = vec![u32::MAX; 3];
+    expected.extend(answer(&good));
+    assert_eq!(run(&["answer"], &input).stdout, encode_words(&expected));
+    assert_eq!(expected[3..7], [0, 1, 74, 144]);
 }
 
 #[test]
