@@ -2,7 +2,9 @@
 use mathlib.Core.Bool.{Bool, true, _&&_}
 use mathlib.Core.List.{List, [], _∷_}
 use Prim.Native.Nat.{ℕ}
+use native.Mathlib.Omega.{arith}
 use lib.Dec.{T}
+use Rattle.edges.specs.Sound.{occurs, EdgesPaired}
 use Rattle.edges.specs.Cases.{givesRings, gives, allGive, trianglesFrom}
 
 pub data Case : Type 0 where
@@ -39,3 +41,8 @@ starred =
 pub starred-hold : T (every starred)
 unfolding every starred
 starred-hold = tt
+
+-- the edge rule refuses something: a triangle by itself has edges with no reverse
+pub lone-triangle : EdgesPaired (0 ∷ 1 ∷ 2 ∷ []) → ⊥
+unfolding occurs
+lone-triangle rule = omega (arith, rule 0 1 (omega arith))

@@ -11,9 +11,9 @@ use lib.Seq.{getD-append-add}
 use Rattle.edges.specs.Sound.{occurs, EdgesPaired, Sound, Part}
 use Rattle.edges.specs.Tube.{stack}
 use Rattle.edges.proofs.Count.{lt-or-le, occurs-append}
-use Rattle.edges.proofs.Piece.{join}
+use Rattle.edges.proofs.Piece.{either, join}
 use Rattle.edges.proofs.Stack.{stack-size, closed-stack}
-use Rattle.edges.proofs.Corners.{sound, closed, ends}
+use Rattle.edges.proofs.Corners.{sound, closed, starts, started, ends, differ-of, of-differ}
 
 -- the same vertices and triangles, counted another way
 pub recount : {o v w t s : ℕ} {l : List ℕ} → v ≡ w → t ≡ s → Sound o v t l → Sound o w s l
@@ -96,3 +96,33 @@ module _ {o v w t s : ℕ} {l r : List ℕ} (first : Part o v t l) (second : Par
         rw (← e) (rw (getD-append-add l r (i - length l) 0) (omega (arith, second .within (i - length l) (omega (arith, length-append l r))))))
         (lt-or-le i (length l));
   }
+
+  -- each part of a sound list is sound
+  pub unglue-sound : {k : ℕ} → o ≤ v → v ≤ w → Sound o w k (l ++ r) → Sound o v t l × Sound v w s r
+  unglue-sound {k} ov vw whole = (
+    record {
+      size = first .size;
+      within = first .within;
+      differ = differ-of l (λ x. omega (arith, sums x x, of-differ (l ++ r) (whole .differ) x));
+      paired = unglue (whole .paired) .0;
+      used = λ u low high.
+          let e = starts-at u low (omega arith) in
+          either _ _ (started u (e .0) l) (λ h. absurd (omega (arith, part-ends second u (e .0) h))) (e .1);
+    },
+    record {
+      size = second .size;
+      within = second .within;
+      differ = differ-of r (λ x. omega (arith, sums x x, of-differ (l ++ r) (whole .differ) x));
+      paired = unglue (whole .paired) .1;
+      used = λ u low high.
+          let e = starts-at u (omega arith) high in
+          either _ _ (λ h. absurd (omega (arith, part-ends first u (e .0) h))) (started u (e .0) r) (e .1);
+    },
+  )
+    where
+      -- an edge starts at each vertex, in one part or the other
+      starts-at : (u : ℕ) → o ≤ u → u < w → (y : ℕ) × (0 < occurs u y l + occurs u y r)
+      starts-at u low high =
+          let c = whole .used u low high in
+          let e = starts (l ++ r) k (c .0) (whole .size) (c .1) in
+          (e .0, omega (arith, sums u (e .0), rw (c .2) at (e .1)))

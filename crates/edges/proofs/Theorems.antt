@@ -1,5 +1,5 @@
--- WHAT IS PROVED of tubes and of meshes of tubes: over p sides (three or more), d divisions (any number), n residues and any first vertex o.
--- Nothing is asked of n: under two residues there is no tube, and what is said holds of nothing. Assumes nothing.
+-- WHAT IS PROVED of tubes and of meshes of tubes: over p sides (three or more), d divisions, n residues and any first vertex o. Where nothing is
+-- asked of n, a theorem holds under two residues too, of no tube. Assumes nothing.
 use mathlib.Core.Path.{_≡_, refl, sym, ap, _∙_}
 use mathlib.Core.Logic.{⊎-elim, _↔_}
 use mathlib.Core.List.{List, [], _∷_, _++_, append-assoc, append-nil}
@@ -13,7 +13,7 @@ use Rattle.edges.specs.Sound.{occurs, EdgesPaired, Sound, Part}
 use Rattle.edges.specs.Tube.{rings, vertices, triangles, stack, tube, mesh, meshVertices, meshTriangles, renumbered}
 use Rattle.edges.proofs.Count.{lt-or-le}
 use Rattle.edges.proofs.Stack.{stack-size}
-use Rattle.edges.proofs.Glue.{recount, empty-sound, stack-sound, glue, glue-paired, unglue, joined}
+use Rattle.edges.proofs.Glue.{recount, empty-sound, stack-sound, glue, glue-paired, unglue, unglue-sound, joined}
 use Rattle.edges.proofs.Owned.{EdgesOwned, owned, paired}
 use Rattle.edges.proofs.Renumber.{renumber, renumber-part, renumber-paired}
 use Rattle.edges.proofs.Shift.{mesh-moved}
@@ -143,6 +143,14 @@ removed-edges o u v w a b c kept gone rest ou uv k g r rule =
     let outer = unglue (joined k g ou uv) r rule in
     let inner = unglue k g (outer .0) in
     glue-paired k (renumber-part v w u r) (inner .0) (renumber-paired v w u c rest (r .size) (r .within) (outer .1))
+
+-- and so does every other rule, where they all held
+pub removed-sound : (o u v w a b c t : ℕ) (kept gone rest : List ℕ) → o ≤ u → u ≤ v → v ≤ w → Part o u a kept → Part u v b gone → Part v w c rest
+    → Sound o w t (kept ++ gone ++ rest) → Sound o (u + (w - v)) (a + c) (kept ++ renumbered v u rest)
+removed-sound o u v w a b c t kept gone rest ou uv vw k g r s =
+    let outer = unglue-sound (joined k g ou uv) r (omega arith) vw s in
+    let inner = unglue-sound k g ou uv (outer .0) in
+    glue o u (u + (w - v)) ou (omega arith) (inner .0) (renumber v w u c rest (outer .1))
 
 -- a mesh of tubes with new numbers is the mesh of tubes that is built with those numbers
 pub mesh-renumbered : (p d o q : ℕ) (ns : List ℕ) → renumbered o q (mesh p d o ns) ≡ mesh p d q ns

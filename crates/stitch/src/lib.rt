@@ -1,10 +1,9 @@
 // Writes the triangles of a tube into a lent buffer, in the Rust's order: start cap inward, bands, end cap.
 ghost use mathlib.Core.Path.{_≡_};
-ghost use mathlib.Core.List.{[], _∷_};
 ghost use Prim.Native.Nat.{_+_, _-_, _*_, _<_, _≤_};
 ghost use lib.ListN.{length};
 ghost use Rattle.buffers.specs.Put.{put};
-ghost use Rattle.edges.specs.Tube.{capSide, cap, bandSide, band, tube};
+ghost use Rattle.edges.specs.Tube.{capSide, cap, band, tube};
 use buffers::put_words;
 
 // A cap's triangle at one side: this side's vertex i0 and the next side's i1, the other way round where the cap is inward.
@@ -29,38 +28,38 @@ fn emit_cap(triangles: &mut [u32], at: usize, center: u32, base: u32, inward: bo
     ensures { λ _. ⌜ now (triangles .exit) ≡ put (now (triangles .entry)) at (cap 8 inward center base) ⌝ }
 {
     let mut k: u32 = 0;
-    let mut o = at;
+    let mut place = at;
     while k < 8 {
-        cap_side(triangles, o, center, base, k, inward);
-        o += 3;
+        cap_side(triangles, place, center, base, k, inward);
+        place += 3;
         k += 1;
     }
 }
 
-// The triangles that one more ring brings: the band between ring a and ring b. (The Rust's function of this name appends the ring's vertices
-// too: here those are written apart.)
+// The triangles that one more ring brings: the band between the rings that begin at a and b. (The Rust's function of this name appends the
+// ring's vertices too; here those are written apart.)
 fn append_ring_and_stitch(triangles: &mut [u32], at: usize, a: u32, b: u32)
     requires { ⌜ at + 48 ≤ length (now triangles) ⌝ }
     requires { ⌜ (a + 8 < 4294967296) × (b + 8 < 4294967296) ⌝ }
     ensures { λ _. ⌜ now (triangles .exit) ≡ put (now (triangles .entry)) at (band 8 a b) ⌝ }
 {
     let mut k: u32 = 0;
-    let mut o = at;
+    let mut place = at;
     while k < 8 {
         let k1 = (k + 1) % 8;
         let a0 = a + k;
         let a1 = a + k1;
         let b0 = b + k;
         let b1 = b + k1;
-        put_words(triangles, o, a0, b1, b0);
-        put_words(triangles, o + 3, a0, a1, b1);
-        o += 6;
+        put_words(triangles, place, a0, b1, b0);
+        put_words(triangles, place + 3, a0, a1, b1);
+        place += 6;
         k += 1;
     }
 }
 
-// The triangles of a tube of n residues whose vertices are numbered from first on, 128n - 112 of them, from place at on. It has 64n - 54
-// vertices, within 01's limit of 1,048,576.
+// The triangles of a tube of n residues, whose vertices are numbered from first on. There are 128n - 112 of them, written from place at on, over
+// 64n - 54 vertices, within 01's limit of 1,048,576.
 pub fn tube_triangles(triangles: &mut [u32], at: usize, first: u32, n: u32)
     requires { ⌜ at + 3 * (128 * n - 112) ≤ length (now triangles) ⌝ }
     requires { ⌜ (2 ≤ n) × (first + (64 * n - 54) ≤ 1048576) ⌝ }
@@ -69,15 +68,15 @@ pub fn tube_triangles(triangles: &mut [u32], at: usize, first: u32, n: u32)
     let bands = 8 * (n - 1);
     emit_cap(triangles, at, first + 8, first, true);
     let mut j: u32 = 0;
-    let mut o = at + 24;
+    let mut place = at + 24;
     let mut a = first;
     let mut b = first + 9;
     while j < bands {
-        append_ring_and_stitch(triangles, o, a, b);
-        o += 48;
+        append_ring_and_stitch(triangles, place, a, b);
+        place += 48;
         a = b;
         b += 8;
         j += 1;
     }
-    emit_cap(triangles, o, b, a, false);
+    emit_cap(triangles, place, b, a, false);
 }

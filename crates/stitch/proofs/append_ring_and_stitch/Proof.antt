@@ -10,10 +10,10 @@ use Rattle.stitch.proofs.append_ring_and_stitch.Statement.{statement}
 use Rattle.stitch.proofs.append_ring_and_stitch.Tie as tie
 
 abbrev Inv-loop : tie.InvT-loop
-Inv-loop triangles₀ at a b k₀ o₀ triangles k o = (k ≤ 8) × (o ≡ at + k * 6) × (triangles ≡ put triangles₀ at (upto (bandSide 8 a b) k))
+Inv-loop triangles₀ at a b k₀ place₀ triangles k place = (k ≤ 8) × (place ≡ at + k * 6) × (triangles ≡ put triangles₀ at (upto (bandSide 8 a b) k))
 
 abbrev μ-loop : tie.MeasureT-loop
-μ-loop triangles₀ at a b k₀ o₀ triangles k o = 8 - k
+μ-loop triangles₀ at a b k₀ place₀ triangles k place = 8 - k
 
 loop-holds : tie.Need-loop-holds Inv-loop μ-loop
 unfolding put upto
@@ -43,8 +43,8 @@ add-put-words c = omega (arith, kept _ _ _ (c .before .before .before .before .b
 put-words-requires-2 : tie.Need-put-words-requires-2 Inv-loop μ-loop
 put-words-requires-2 c κs = omega (arith, kept _ _ _ (c .before .before .before .put-words .ensures), kept _ _ _ (c .before .before .before .before .before .before .loop .inv .2))
 
-add-o : tie.Need-add-o Inv-loop μ-loop
-add-o c = omega (arith, kept _ _ _ (c .before .before .before .before .before .before .before .before .before .loop .inv .2))
+add-place : tie.Need-add-place Inv-loop μ-loop
+add-place c = omega (arith, kept _ _ _ (c .before .before .before .before .before .before .before .before .before .loop .inv .2))
 
 add-k : tie.Need-add-k Inv-loop μ-loop
 add-k c = omega arith
@@ -56,7 +56,7 @@ loop-again : tie.Need-loop-again Inv-loop μ-loop
 unfolding tube.next
 loop-again c = let loop = c .before .before .before .before .before .before .before .before .before .loop in
     let args = c .before .before .before .before .before .before .before .before .before .before .before .args in
-    let side = next _ _ (loop .o) _ _ _ (c .before .before .put-words2 .ensures) (c .before .before .before .before .before .before .put-words .ensures) refl in
+    let side = next _ _ (loop .place) _ _ _ (c .before .before .put-words2 .ensures) (c .before .before .before .before .before .before .put-words .ensures) refl in
     (omega arith, omega arith, turn (bandSide 8 (args .a) (args .b)) 6 (λ k. refl) _ _ _ (loop .k) side (loop .inv .2) (loop .inv .1))
 
 same-length : tie.Need-same-length Inv-loop μ-loop
@@ -82,7 +82,7 @@ append-ring-and-stitch-spec =
     put-words-requires
     add-put-words
     put-words-requires-2
-    add-o
+    add-place
     add-k
     loop-less
     loop-again

@@ -10,10 +10,10 @@ use Rattle.stitch.proofs.emit_cap.Statement.{statement}
 use Rattle.stitch.proofs.emit_cap.Tie as tie
 
 abbrev Inv-loop : tie.InvT-loop
-Inv-loop triangles₀ at center base inward k₀ o₀ triangles k o = (k ≤ 8) × (o ≡ at + k * 3) × (triangles ≡ put triangles₀ at (upto (capSide 8 inward center base) k))
+Inv-loop triangles₀ at center base inward k₀ place₀ triangles k place = (k ≤ 8) × (place ≡ at + k * 3) × (triangles ≡ put triangles₀ at (upto (capSide 8 inward center base) k))
 
 abbrev μ-loop : tie.MeasureT-loop
-μ-loop triangles₀ at center base inward k₀ o₀ triangles k o = 8 - k
+μ-loop triangles₀ at center base inward k₀ place₀ triangles k place = 8 - k
 
 loop-holds : tie.Need-loop-holds Inv-loop μ-loop
 unfolding put upto
@@ -22,8 +22,8 @@ loop-holds c = (omega arith, omega arith, refl)
 cap-side-requires : tie.Need-cap-side-requires Inv-loop μ-loop
 cap-side-requires c κs = (omega (arith, kept _ _ _ (c .before .before .loop .inv .2)), omega arith)
 
-add-o : tie.Need-add-o Inv-loop μ-loop
-add-o c = omega (arith, kept _ _ _ (c .before .before .before .before .before .loop .inv .2))
+add-place : tie.Need-add-place Inv-loop μ-loop
+add-place c = omega (arith, kept _ _ _ (c .before .before .before .before .before .loop .inv .2))
 
 add-k : tie.Need-add-k Inv-loop μ-loop
 add-k c = omega arith
@@ -56,7 +56,7 @@ emit-cap-spec =
     μ-loop
     loop-holds
     cap-side-requires
-    add-o
+    add-place
     add-k
     loop-less
     loop-again

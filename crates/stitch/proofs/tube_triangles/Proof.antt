@@ -13,11 +13,11 @@ use Rattle.stitch.proofs.tube_triangles.Statement.{statement}
 use Rattle.stitch.proofs.tube_triangles.Tie as tie
 
 abbrev Inv-loop : tie.InvT-loop
-Inv-loop triangles₀ at first n bands j₀ o₀ a₀ b₀ triangles j o a b = (j ≤ bands) × (o ≡ at + 24 + j * 48) × (a ≡ ring 8 first j) × (b ≡ ring 8 first (suc j)) × (a + 8 ≤ b) × (b ≡ first + (8 * j + 9))
+Inv-loop triangles₀ at first n bands j₀ place₀ a₀ b₀ triangles j place a b = (j ≤ bands) × (place ≡ at + 24 + j * 48) × (a ≡ ring 8 first j) × (b ≡ ring 8 first (suc j)) × (a + 8 ≤ b) × (b ≡ first + (8 * j + 9))
     × (triangles ≡ put triangles₀ (at + 24) (upto (bandAt 8 first) j))
 
 abbrev μ-loop : tie.MeasureT-loop
-μ-loop triangles₀ at first n bands j₀ o₀ a₀ b₀ triangles j o a b = bands - j
+μ-loop triangles₀ at first n bands j₀ place₀ a₀ b₀ triangles j place a b = bands - j
 
 sub-bands : tie.Need-sub-bands Inv-loop μ-loop
 sub-bands c = search needs
@@ -31,8 +31,8 @@ add-emit-cap c = search needs
 emit-cap-requires : tie.Need-emit-cap-requires Inv-loop μ-loop
 emit-cap-requires c κs = search needs
 
-add-o : tie.Need-add-o Inv-loop μ-loop
-add-o c = search needs
+add-place : tie.Need-add-place Inv-loop μ-loop
+add-place c = search needs
 
 add-b : tie.Need-add-b Inv-loop μ-loop
 add-b c = search needs
@@ -44,8 +44,8 @@ loop-holds c = (omega arith, omega arith, refl, omega arith, omega arith, omega 
 append-ring-and-stitch-requires : tie.Need-append-ring-and-stitch-requires Inv-loop μ-loop
 append-ring-and-stitch-requires c κs = (omega (arith, kept _ _ _ (c .before .before .loop .inv .6), kept _ _ _ (c .before .before .before .before .before .emit-cap .ensures)), omega arith)
 
-add-o-2 : tie.Need-add-o-2 Inv-loop μ-loop
-add-o-2 c = omega (arith, kept _ _ _ (c .before .before .before .before .before .loop .inv .6), kept _ _ _ (c .before .before .before .before .before .before .before .before .emit-cap .ensures))
+add-place-2 : tie.Need-add-place-2 Inv-loop μ-loop
+add-place-2 c = omega (arith, kept _ _ _ (c .before .before .before .before .before .loop .inv .6), kept _ _ _ (c .before .before .before .before .before .before .before .before .emit-cap .ensures))
 
 add-b-2 : tie.Need-add-b-2 Inv-loop μ-loop
 add-b-2 c = search needs
@@ -66,7 +66,7 @@ loop-again c = let loop = c .before .before .before .before .before .loop in
       omega arith,
       omega arith,
       omega arith,
-      turn (bandAt 8 (args .first)) 48 (λ j. band-size 8 _ _) _ _ _ (loop .j) (c .before .before .append-ring-and-stitch .ensures ∙ ap (put (loop .triangles) (loop .o)) (ap₂ (band 8) (loop .inv .2) (loop .inv .3))) (loop .inv .6) (loop .inv .1),
+      turn (bandAt 8 (args .first)) 48 (λ j. band-size 8 _ _) _ _ _ (loop .j) (c .before .before .append-ring-and-stitch .ensures ∙ ap (put (loop .triangles) (loop .place)) (ap₂ (band 8) (loop .inv .2) (loop .inv .3))) (loop .inv .6) (loop .inv .1),
     )
 
 emit-cap-requires-2 : tie.Need-emit-cap-requires-2 Inv-loop μ-loop
@@ -91,11 +91,11 @@ tube-triangles-spec =
     mul-bands
     add-emit-cap
     emit-cap-requires
-    add-o
+    add-place
     add-b
     loop-holds
     append-ring-and-stitch-requires
-    add-o-2
+    add-place-2
     add-b-2
     add-j
     loop-less
