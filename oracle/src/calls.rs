@@ -97,9 +97,17 @@ fn check_outputs(tubes: &Tubes, b: &Buffers) -> Result<(), Refusal> {
 }
 
 pub fn build(bytes: &[u8], b: &mut Buffers) -> Result<Counts, Refusal> {
-    let job = decode(bytes)?;
+    let decoded = decode(bytes);
+    // The mistake: the scratch is used before all checks are made.
+    if wrong(Mutation::ScratchClearedOnEight) && decoded.as_ref().is_err_and(|r| r.number == 8) {
+        b.words.fill(0);
+    }
+    let job = decoded?;
     check_scratch(&job, &b.words, &b.floats)?;
     let tubes = list(&job);
+    if wrong(Mutation::TubesWrittenOnEleven) {
+        put(&mut b.tubes, tubes.list.iter().flat_map(|t| t.words));
+    }
     let checked = if wrong(Mutation::ElevenBeforeTen) {
         check_outputs(&tubes, b).and_then(|()| check_vertices(&tubes))
     } else {

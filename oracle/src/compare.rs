@@ -15,9 +15,7 @@ use crate::{
     angles,
     generator::request,
     job::{NONE, RawJob},
-    protocol::{
-        BUILD, NAMES, PLAN, Request, TOO_LONG, TUBE, answer, decode_words, places, read_answer,
-    },
+    protocol::{BUILD, NAMES, Request, TOO_LONG, TUBE, answer, decode_words, places, read_answer},
     shrink::shrink,
 };
 
@@ -122,6 +120,33 @@ fn ended_well(mut child: Running, stdout: &mut BufReader<ChildStdout>) -> Result
     Ok(())
 }
 
+/// A request by its number, and the program's answer to it, if there is one.
+type Found = (u64, Request, Option<Vec<u32>>);
+
+/// Compares the answers as they come, up to the first that differs.
+fn first_difference(
+    requests: &mpsc::Receiver<Request>,
+    stdout: &mut BufReader<ChildStdout>,
+    tally: &mut Tally,
+    jobs: u64,
+) -> io::Result<Option<Found>> {
+    let began = Instant::now();
+    let mut told = began;
+    for (i, r) in requests.iter().enumerate() {
+        let expected = answer(&r);
+        let got = read_answer(&r, stdout)?;
+        if got.as_ref() != Some(&expected) {
+            return Ok(Some((i as u64, r, got)));
+        }
+        tally.count(&r, &expected);
+        if told.elapsed() > Duration::from_secs(5) {
+            told = Instant::now();
+            eprintln!("{} of {jobs} in {} s", i + 1, began.elapsed().as_secs());
+        }
+    }
+    Ok(None)
+}
+
 /// True when every answer is the oracle's. The report goes to standard output, progress to standard error.
 pub fn compare(o: &Options) -> Result<bool, String> {
     if let Some(why) = angles::differs() {
@@ -144,23 +169,13 @@ pub fn compare(o: &Options) -> Result<bool, String> {
         }
     });
     let mut tally = Tally::default();
-    let began = Instant::now();
-    let mut told = began;
-    for (i, r) in receive.iter().enumerate() {
-        let expected = answer(&r);
-        let got = read_answer(&r, &mut stdout).map_err(|e: io::Error| e.to_string())?;
-        if got.as_ref() != Some(&expected) {
-            drop(child);
-            drop(receive);
-            let _ = writer.join();
-            report(o, i as u64, &r, got)?;
-            return Ok(false);
-        }
-        tally.count(&r, &expected);
-        if told.elapsed() > Duration::from_secs(5) {
-            told = Instant::now();
-            eprintln!("{} of {jobs} in {} s", i + 1, began.elapsed().as_secs());
-        }
+    let found = first_difference(&receive, &mut stdout, &mut tally, jobs);
+    if let Some((i, r, got)) = found.map_err(|e| e.to_string())? {
+        // The writer ends once nobody reads.
+        drop((child, receive));
+        let _ = writer.join();
+        report(o, i, &r, got)?;
+        return Ok(false);
     }
     let _ = writer.join();
     println!("{}", tally.text());
@@ -247,25 +262,23 @@ pub fn dump(r: &Request) -> String {
         out.push_str(&format!("  {name}: {length}\n"));
     }
     if r.call == TUBE {
-        let tubes = &decode_words(&r.bytes)[..];
-        for (i, words) in tubes[..tubes.len().min(r.lengths[4] as usize)]
-            .chunks(5)
-            .enumerate()
-        {
+        let mut tubes = decode_words(&r.bytes);
+        tubes.truncate(r.lengths[4] as usize);
+        for (i, words) in tubes.chunks(5).enumerate() {
             out.push_str(&format!("tube {i}: {words:?}\n"));
         }
+    } else if let Some(job) = RawJob::of(&r.bytes) {
+        out.push_str(&dump_job(&job));
     }
-    let Some(job) = RawJob::of(&r.bytes).filter(|_| r.call == BUILD || r.call == PLAN) else {
-        return out;
-    };
+    out
+}
+
+fn dump_job(job: &RawJob) -> String {
     let index = |i: u16| match i {
         NONE => "none".to_string(),
         i => i.to_string(),
     };
-    out.push_str(&format!(
-        "version {}, {} residues\n",
-        job.version, job.residues
-    ));
+    let mut out = format!("version {}, {} residues\n", job.version, job.residues);
     for (i, v) in job.visible.iter().enumerate() {
         out.push_str(&format!("chain {i}: visible {v}\n"));
     }

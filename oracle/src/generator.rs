@@ -5,7 +5,7 @@ use crate::{
     calls::{list, needs},
     job::{LIMIT, MAX_RESIDUES, NONE, RawAtom, RawJob, decode, fix_length},
     jobs::{chaos, job},
-    protocol::{BUILD, MOST, MOST_BYTES, PLAN, Request, TUBE},
+    protocol::{BUILD, MOST, MOST_BYTES, PLAN, Request, TUBE, encode_words},
     rng::Rng,
     tubes::triangles_of,
 };
@@ -105,7 +105,14 @@ fn needed(rng: &mut Rng, bytes: &[u8]) -> [u64; 8] {
             let tubes = list(&job);
             needs(tubes.k, tubes.v, tubes.t, job.residues.len() as u64)
         }
-        Err(_) => [0; 8].map(|_| rng.below(20)),
+        // A program that does not refuse at once has room to write.
+        Err(_) => {
+            let residues = bytes
+                .get(7..9)
+                .map_or(0, |r| r[0] as u64 * 256 + r[1] as u64);
+            let (k, v, t) = rng.pick(&[(0, 0, 0), (1, 74, 144), (3, 350, 688)]);
+            needs(k, v, t, residues.min(64))
+        }
     }
 }
 
@@ -149,73 +156,89 @@ fn plan_request(rng: &mut Rng) -> Request {
     }
 }
 
-/// Tube records with any contents, over triangles with any contents.
-fn tube_request(rng: &mut Rng) -> Request {
+/// Tripled, or with a part's length added, these wrap to small places.
+const FIRST_WRAPS: [u32; 5] = [
+    1_431_655_765,
+    1_431_655_766,
+    2_863_311_531,
+    u32::MAX,
+    1 << 31,
+];
+/// Five times these wrap to small places.
+const K_WRAPS: [u32; 5] = [
+    858_993_459,
+    858_993_460,
+    1_717_986_919,
+    3_435_973_837,
+    u32::MAX,
+];
+
+/// A tube call before its bytes are laid out.
+struct TubeCall {
+    tubes: Vec<u32>,
+    /// How long the triangle buffer is.
+    places: u32,
+    k: u32,
+}
+
+/// A good record among others of any contents, over as many triangles as it needs and a few more.
+fn tube_call(rng: &mut Rng) -> TubeCall {
     let n = rng.pick(&[2, 2, 2, 3, 3, 4, 5]);
-    let need = 3 * triangles_of(n) as u32;
     let first = rng.pick(&[0, 0, 1, 2, 7, 100]);
-    let spare = rng.pick(&[0, 0, 0, 1, 2, 3, 50]);
-    let mut places = 3 * first + need + spare;
-    if rng.percent(25) {
-        places -= rng.between(1, 1 + spare as u64 * 2) as u32;
-    }
     let k = rng.pick(&[0, 0, 1, 2, 3]);
-    let record = [
+    let any = |rng: &mut Rng, n: u64| (0..n).map(|_| rng.word() as u32).collect::<Vec<_>>();
+    let mut tubes = any(rng, 5 * k as u64);
+    tubes.extend([
         rng.below(3) as u32,
         rng.below(100) as u32,
-        n as u32,
+        n,
         64 * first,
         first,
-    ];
-    let mut tubes: Vec<u32> = (0..5 * k).map(|_| rng.word() as u32).collect();
-    tubes.extend(record);
-    tubes.extend((0..rng.below(7)).map(|_| rng.word() as u32));
-    let at = 5 * k as usize;
-    let mut asked = k;
-    match rng.below(18) {
-        0 => tubes[at + 2] = rng.pick(&[0, 1, 16_384, 16_385, u32::MAX]),
-        // 128 n wraps to that of 2 here.
-        1 => tubes[at + 2] = n as u32 + (1 << 25) * rng.between(1, 127) as u32,
-        // Tripled, or with the part's length added, these wrap to small places.
-        2 => {
-            let wraps = [
-                1_431_655_765,
-                1_431_655_766,
-                2_863_311_531,
-                u32::MAX,
-                1 << 31,
-            ];
-            tubes[at + 4] = rng.pick(&wraps);
-        }
-        3 => tubes.truncate(rng.below(tubes.len() as u64 + 1) as usize),
-        4 => tubes.truncate(at + 4),
-        // Five times these wrap to small places.
-        5 => {
-            asked = rng.pick(&[
-                858_993_459,
-                858_993_460,
-                1_717_986_919,
-                3_435_973_837,
-                u32::MAX,
-            ])
-        }
-        6 => asked = k + 1,
-        7 => tubes[at + 4] = rng.word() as u32 % 200,
-        8 => places = rng.below(places as u64 + 1) as u32,
-        _ => {}
+    ]);
+    let more = rng.below(7);
+    tubes.extend(any(rng, more));
+    let spare = rng.pick(&[0, 0, 0, 1, 2, 3, 50]);
+    TubeCall {
+        tubes,
+        places: 3 * first + 3 * triangles_of(n as u64) as u32 + spare,
+        k,
     }
-    let mut bytes: Vec<u8> = tubes.iter().flat_map(|w| w.to_be_bytes()).collect();
-    for _ in 0..places {
-        bytes.extend((rng.word() as u32).to_be_bytes());
+}
+
+/// One thing that makes the part empty, or another part.
+fn spoil(rng: &mut Rng, call: &mut TubeCall) {
+    let at = 5 * call.k as usize;
+    match rng.below(10) {
+        0 => call.tubes[at + 2] = rng.pick(&[0, 1, 16_384, 16_385, u32::MAX]),
+        // 128 n wraps to that of a small n here.
+        1 => call.tubes[at + 2] += (1 << 25) * rng.between(1, 127) as u32,
+        2 => call.tubes[at + 4] = rng.pick(&FIRST_WRAPS),
+        3 => call.tubes.truncate(rng.below(at as u64 + 5) as usize),
+        4 => call.tubes.truncate(at + 4),
+        5 => call.k = rng.pick(&K_WRAPS),
+        6 => call.k += 1,
+        7 => call.tubes[at + 4] = rng.below(200) as u32,
+        8 => call.places = rng.below(call.places as u64 + 1) as u32,
+        _ => call.places -= rng.between(1, 60) as u32,
     }
+}
+
+/// Tube records with any contents, over triangles with any contents.
+fn tube_request(rng: &mut Rng) -> Request {
+    let mut call = tube_call(rng);
+    if rng.percent(60) {
+        spoil(rng, &mut call);
+    }
+    let mut words = call.tubes.clone();
+    words.extend((0..call.places).map(|_| rng.word() as u32));
     let mut lengths = [0; 8];
-    lengths[3] = places;
-    lengths[4] = tubes.len() as u32;
+    lengths[3] = call.places;
+    lengths[4] = call.tubes.len() as u32;
     Request {
         call: TUBE,
         lengths,
-        k: asked,
-        bytes,
+        k: call.k,
+        bytes: encode_words(&words),
     }
 }
 

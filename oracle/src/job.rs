@@ -232,8 +232,23 @@ pub fn decode(b: &[u8]) -> Result<Job, Refusal> {
     Ok(job_of(&raw))
 }
 
-fn job_of(raw: &RawJob) -> Job {
+fn atom_of(a: &RawAtom) -> Atom {
     let some = |i: u16| (i != NONE).then_some(i as usize);
+    let [x, y, z] = a.xyz;
+    Atom {
+        serial_number: a.serial,
+        posit: Vec3F64 { x, y, z },
+        role: match a.role {
+            1 => Some(AtomRole::C_Alpha),
+            2 => Some(AtomRole::O_Backbone),
+            _ => None,
+        },
+        residue: some(a.residue),
+        chain: some(a.chain),
+    }
+}
+
+fn job_of(raw: &RawJob) -> Job {
     Job {
         chains: raw
             .visible
@@ -254,24 +269,6 @@ fn job_of(raw: &RawJob) -> Job {
                 },
             })
             .collect(),
-        atoms: raw
-            .atoms
-            .iter()
-            .map(|a| Atom {
-                serial_number: a.serial,
-                posit: Vec3F64 {
-                    x: a.xyz[0],
-                    y: a.xyz[1],
-                    z: a.xyz[2],
-                },
-                role: match a.role {
-                    1 => Some(AtomRole::C_Alpha),
-                    2 => Some(AtomRole::O_Backbone),
-                    _ => None,
-                },
-                residue: some(a.residue),
-                chain: some(a.chain),
-            })
-            .collect(),
+        atoms: raw.atoms.iter().map(atom_of).collect(),
     }
 }

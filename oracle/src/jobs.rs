@@ -30,54 +30,45 @@ fn segment(kind: u8, start: u32, end: u32) -> RawSegment {
     RawSegment { kind, start, end }
 }
 
-/// A protein as files hold it: stretches of helix, strand and loop, with what goes wrong in real files.
-fn protein(rng: &mut Rng, residues: u64) -> RawJob {
-    let mut job = RawJob::default();
-    let mut serial = rng.between(1, 3) as u32;
-    let mut residue = 0;
-    let faults = rng.pick(&[0, 3, 10]);
-    while residue < residues {
-        let chain = if rng.percent(4) {
-            NONE
-        } else {
-            job.visible.push(!rng.percent(20) as u8);
-            job.visible.len() as u16 - 1
-        };
-        let end = (residue + rng.between(1, residues.max(2) * 2 / 3)).min(residues);
-        let mut p = [0; 3].map(|_| rng.real(-60.0, 60.0));
-        while residue < end {
-            let kind = rng.below(3) as u8;
-            let stretch = rng.between(1, 9).min(end - residue);
-            let first = serial;
-            for step in 0..stretch {
-                p = step_on(rng, p, kind, step);
-                if rng.percent(faults) {
-                    p = plus(p, rng.direction(), rng_gap(rng));
-                }
-                residue_atoms(rng, &mut job, &mut serial, residue as u16, chain, p, faults);
-                residue += 1;
-                residue += rng.percent(faults) as u64;
-            }
-            if kind > 0 || rng.percent(10) {
-                let kind = if rng.percent(5) {
-                    rng.below(3) as u8
-                } else {
-                    kind
-                };
-                let end = if serial > first { serial - 1 } else { first };
-                job.segments.push(segment(kind, first, end));
-            }
-        }
-    }
-    job.residues = residue.max(residues) as u16;
-    if rng.percent(faults * 2) {
-        disorder(rng, &mut job);
-    }
-    job
+/// A protein that is being written, one stretch of a chain after another.
+struct Protein {
+    job: RawJob,
+    /// The next atom's serial and the next residue.
+    serial: u32,
+    residue: u64,
+    /// How often, in a hundred, something is as it should not be.
+    faults: u64,
+    chain: u16,
+    p: [f64; 3],
 }
 
-fn rng_gap(rng: &mut Rng) -> f64 {
-    rng.pick(&[1.0, 3.0, 8.0, 20.0])
+/// A protein as files hold it: stretches of helix, strand and loop, with what goes wrong in real files.
+fn protein(rng: &mut Rng, residues: u64) -> RawJob {
+    let mut it = Protein {
+        job: RawJob::default(),
+        serial: rng.between(1, 3) as u32,
+        residue: 0,
+        faults: rng.pick(&[0, 3, 10]),
+        chain: NONE,
+        p: [0.0; 3],
+    };
+    while it.residue < residues {
+        it.chain = NONE;
+        if rng.percent(96) {
+            it.chain = it.job.visible.len() as u16;
+            it.job.visible.push(!rng.percent(20) as u8);
+        }
+        let end = (it.residue + rng.between(1, residues.max(2) * 2 / 3)).min(residues);
+        it.p = [0; 3].map(|_| rng.real(-60.0, 60.0));
+        while it.residue < end {
+            it.stretch(rng, end - it.residue);
+        }
+    }
+    it.job.residues = it.residue.max(residues) as u16;
+    if rng.percent(it.faults * 2) {
+        disorder(rng, &mut it.job);
+    }
+    it.job
 }
 
 /// The next C-alpha of a stretch: about 3.8 from the last one.
@@ -90,33 +81,45 @@ fn step_on(rng: &mut Rng, p: [f64; 3], kind: u8, step: u64) -> [f64; 3] {
     }
 }
 
-fn residue_atoms(
-    rng: &mut Rng,
-    job: &mut RawJob,
-    serial: &mut u32,
-    residue: u16,
-    chain: u16,
-    p: [f64; 3],
-    faults: u64,
-) {
-    let oxygen = plus(p, rng.direction(), 2.4);
-    let at = [
-        (0, plus(p, rng.direction(), 1.46)),
-        (1, p),
-        (0, plus(p, rng.direction(), 1.52)),
-        (2, oxygen),
-    ];
-    for (role, xyz) in at {
-        if rng.percent(faults) {
-            continue;
+impl Protein {
+    /// A few residues of one kind, and mostly the segment that marks them.
+    fn stretch(&mut self, rng: &mut Rng, most: u64) {
+        let kind = rng.below(3) as u8;
+        let first = self.serial;
+        for step in 0..rng.between(1, 9).min(most) {
+            self.p = step_on(rng, self.p, kind, step);
+            if rng.percent(self.faults) {
+                let gap = rng.pick(&[1.0, 3.0, 8.0, 20.0]);
+                self.p = plus(self.p, rng.direction(), gap);
+            }
+            self.atoms(rng);
+            self.residue += 1 + rng.percent(self.faults) as u64;
         }
-        let times = if rng.percent(faults) { 2 } else { 1 };
-        for _ in 0..times {
-            let near = plus(xyz, rng.direction(), if times == 2 { 0.4 } else { 0.0 });
-            let chain = if rng.percent(faults / 3) { NONE } else { chain };
-            job.atoms
-                .push(atom(*serial, role, residue, chain, thousandths(near)));
-            *serial += 1;
+        if kind > 0 || rng.percent(10) {
+            let other = rng.percent(5).then(|| rng.below(3) as u8);
+            let end = (self.serial - 1).max(first);
+            let marked = segment(other.unwrap_or(kind), first, end);
+            self.job.segments.push(marked);
+        }
+    }
+
+    /// N, C-alpha, C and O of one residue; each may be missing or there twice.
+    fn atoms(&mut self, rng: &mut Rng) {
+        for (role, far) in [(0, 1.46), (1, 0.0), (0, 1.52), (2, 2.4)] {
+            let xyz = plus(self.p, rng.direction(), far);
+            if rng.percent(self.faults) {
+                continue;
+            }
+            let twice = rng.percent(self.faults);
+            for _ in 0..=twice as u8 {
+                let near = plus(xyz, rng.direction(), 0.4 * twice as u8 as f64);
+                let none = rng.percent(self.faults / 3);
+                let chain = if none { NONE } else { self.chain };
+                let residue = self.residue as u16;
+                let listed = atom(self.serial, role, residue, chain, thousandths(near));
+                self.job.atoms.push(listed);
+                self.serial += 1;
+            }
         }
     }
 }
@@ -160,35 +163,42 @@ fn odd_coordinate(rng: &mut Rng) -> f64 {
     }
 }
 
+fn odd_residue(rng: &mut Rng, residues: u64) -> u16 {
+    if residues == 0 || rng.percent(8) {
+        return NONE;
+    }
+    rng.below(residues) as u16
+}
+
+/// Mostly a residue's own chain, so that neighbours share one.
+fn odd_chain(rng: &mut Rng, residue: u16, chains: u64, none: u64) -> u16 {
+    if chains == 0 || rng.percent(none) {
+        return NONE;
+    }
+    if residue != NONE && rng.percent(70) {
+        return (residue as u64 / 4 % chains) as u16;
+    }
+    rng.below(chains) as u16
+}
+
 /// Atoms and segments drawn at random from few serials, residues and chains.
 pub fn chaos(rng: &mut Rng) -> RawJob {
     let visible: Vec<u8> = (0..rng.below(4)).map(|_| !rng.percent(30) as u8).collect();
     let residues = rng.pick(&[0, 1, 2, 3, 4, 5, 6, 8, 10]);
-    let chains = visible.len() as u64;
     let serials = rng.between(1, 20);
     let serial = |rng: &mut Rng| match rng.below(20) {
         0 => u32::MAX - rng.below(2) as u32,
         _ => rng.below(serials) as u32,
     };
-    let far = if rng.percent(5) { LIMIT } else { 0.0 };
+    let far = rng.percent(5);
     let no_chain = rng.pick(&[5, 30, 100]);
     let atoms = (0..rng.below(30))
         .map(|_| {
-            let residue = match residues {
-                0 => NONE,
-                _ if rng.percent(8) => NONE,
-                _ => rng.below(residues as u64) as u16,
-            };
-            let chain = match chains {
-                0 => NONE,
-                _ if rng.percent(no_chain) => NONE,
-                // Mostly a residue's own chain, so that neighbours share one.
-                _ if residue != NONE && rng.percent(70) => (residue as u64 / 4 % chains) as u16,
-                _ => rng.below(chains) as u16,
-            };
+            let residue = odd_residue(rng, residues as u64);
+            let chain = odd_chain(rng, residue, visible.len() as u64, no_chain);
             let xyz = [0; 3].map(|_| {
                 let x = odd_coordinate(rng);
-                if far > 0.0 { far - x.abs() } else { x }
+                if far { LIMIT - x.abs() } else { x }
             });
             let role = rng.pick(&[1, 1, 1, 2, 2, 0]);
             atom(serial(rng), role, residue, chain, xyz)
@@ -253,43 +263,50 @@ fn odd_oxygen(rng: &mut Rng, ca: [f64; 3], step: [f64; 3]) -> [f64; 3] {
     }
 }
 
+/// Where a path begins: at the origin if its steps are tiny.
+fn path_start(rng: &mut Rng, tiny: bool) -> [f64; 3] {
+    match rng.below(8) {
+        0 if !tiny => [LIMIT, -LIMIT, LIMIT - 1.0],
+        1 => [-0.0, 0.0, -0.0],
+        2 if !tiny => [0; 3].map(|_| rng.below(2000) as f64 - 1000.0),
+        _ => [0.0, 0.0, 0.0],
+    }
+}
+
+/// A few segments over `n` residues with two serials each; some are turned round.
+fn mark(rng: &mut Rng, job: &mut RawJob) {
+    let n = job.residues as u64;
+    for _ in 0..rng.below(4) {
+        let (a, b) = (rng.below(n) as u32, rng.below(n) as u32);
+        let turned = rng.percent(5);
+        let (start, end) = if turned { (a, b) } else { (a.min(b), a.max(b)) };
+        let kind = rng.below(3) as u8;
+        job.segments.push(segment(kind, 2 * start, 2 * end + 1));
+    }
+}
+
 /// One path through space with odd steps, residues in order, marked by a few segments.
 fn path(rng: &mut Rng, scale: f64) -> RawJob {
     let n = rng.between(2, 14) as u16;
-    let mut p = match rng.below(8) {
-        0 if scale == 1.0 => [LIMIT, -LIMIT, LIMIT - 1.0],
-        1 => [-0.0, 0.0, -0.0],
-        2 if scale == 1.0 => [0; 3].map(|_| rng.below(2000) as f64 - 1000.0),
-        _ => [0.0, 0.0, 0.0],
-    };
+    let mut p = path_start(rng, scale < 0.1);
     let mut job = RawJob {
         residues: n,
-        visible: vec![1, !rng.percent(50) as u8],
+        visible: vec![!rng.percent(15) as u8, !rng.percent(50) as u8],
         ..RawJob::default()
     };
-    let split = if rng.percent(20) {
-        rng.below(n as u64) as u16
-    } else {
-        n
-    };
+    // Residues from here on are of the second chain.
+    let split = rng.percent(20).then(|| rng.below(n as u64) as u16);
     let oxygens = rng.pick(&[0, 50, 100]);
     for residue in 0..n {
         let step = odd_step(rng).map(|x| x * scale);
         if residue > 0 {
-            let q = plus(p, step, 1.0);
-            p = if q.iter().all(|x| x.abs() <= LIMIT) {
-                q
-            } else {
-                plus(p, step, -1.0)
-            };
+            let out = plus(p, step, 1.0).iter().any(|x| x.abs() > LIMIT);
+            p = plus(p, step, if out { -1.0 } else { 1.0 });
         }
         // A zero of the other sign is the same place.
-        let ca = if rng.percent(20) {
-            p.map(|x| if x == 0.0 { -x } else { x })
-        } else {
-            p
-        };
-        let chain = (residue >= split) as u16;
+        let other = rng.percent(20);
+        let ca = p.map(|x| if other && x == 0.0 { -x } else { x });
+        let chain = split.is_some_and(|s| residue >= s) as u16;
         let serial = 2 * residue as u32;
         if rng.percent(97) {
             job.atoms.push(atom(serial, 1, residue, chain, ca));
@@ -303,16 +320,7 @@ fn path(rng: &mut Rng, scale: f64) -> RawJob {
                 .push(atom(serial, 1, residue, chain, odd_step(rng)));
         }
     }
-    for _ in 0..rng.below(4) {
-        let (a, b) = (rng.below(n as u64) as u32, rng.below(n as u64) as u32);
-        let (start, end) = if rng.percent(95) {
-            (a.min(b), a.max(b))
-        } else {
-            (a, b)
-        };
-        job.segments
-            .push(segment(rng.between(0, 2) as u8, 2 * start, 2 * end + 1));
-    }
+    mark(rng, &mut job);
     job
 }
 
@@ -472,9 +480,9 @@ pub fn job(rng: &mut Rng) -> RawJob {
             path(rng, scale)
         }
         900..=959 => with_nothing(rng),
-        960..=992 => at_the_limits(rng),
-        993..=994 => crowd(rng),
-        995..=996 => near_the_vertex_limit(rng),
+        960..=989 => at_the_limits(rng),
+        990..=991 => crowd(rng),
+        992..=996 => near_the_vertex_limit(rng),
         997 => full(rng),
         _ => {
             let residues = rng.between(200, 500);

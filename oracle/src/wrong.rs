@@ -45,6 +45,8 @@ mutations! {
     VertexLimitExclusive "exactly 1,048,576 vertices are refused",
     ElevenBeforeTen "a short output buffer is reported before the vertex limit",
     BoxesNotChecked "a short box buffer is not refused",
+    ScratchClearedOnEight "refusal 8 clears the scratch",
+    TubesWrittenOnEleven "refusal 11 leaves a first tube",
     ScratchLeftOnEleven "refusal 11 leaves the scratch as it was",
     ScratchAllCleared "the scratch past 8R and 32R is cleared too",
     PlanLastPastK "a plan with k past the last tube gives the last tube's words",
