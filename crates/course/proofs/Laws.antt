@@ -14,6 +14,7 @@ use Rattle.vectors.specs.Vec.{vadd, vzero, floats, vecAt}
 use Rattle.buffers.specs.Put.{put, upto}
 use Rattle.buffers.proofs.Puts.{turn, length-put, length-upto, getD-put-past, put-eq}
 use Rattle.shape.specs.declared.Kind.{Kind}
+use Rattle.shape.specs.declared.Kind.the-variants.{Coil, Helix, Sheet}
 use Rattle.shape.specs.declared.Oxygen.{Oxygen}
 use Rattle.shape.specs.Guide.{agreeing, smoothGuide, smoothPosition}
 use Rattle.course.specs.Smooth.{vectors, Smoothable, after, guidePiece, guidePass, positionPiece, positionPass, repeated, smoothGuides, smoothPositions}
@@ -201,3 +202,16 @@ module _ (flags : List ℕ) (l : List Float) (n : ℕ) (h : length l ≡ 6 * n) 
   pub laid-points : (kind : Kind) (g : List Float) {s p : List Float} → s ≡ take (3 * n) l ++ g
       → p ≡ pointsOf kind (take (3 * n) s) (vectors (take (3 * n) s)) → p ++ drop (3 * n) s ≡ pointsOf kind (take (3 * n) l) n ++ g
   laid-points kind g e ep = lent-front n (take (3 * n) l) g e alphas kind ep
+
+-- both lists of a course have n vectors
+pub length-guides-of : (kind : Kind) (ca : List Float) (o : ℕ → Oxygen) (n : ℕ) → length (guidesOf kind ca o n) ≡ 3 * n
+unfolding guidesOf settled smoothGuides repeated
+length-guides-of Coil ca o n = length-guides n _
+length-guides-of Helix ca o n = length-guides n _
+length-guides-of Sheet ca o n = length-same _ n
+
+pub length-points-of : (kind : Kind) (ca : List Float) (n : ℕ) → length (pointsOf kind ca n) ≡ length ca
+unfolding pointsOf smoothPositions repeated
+length-points-of Coil ca n = refl
+length-points-of Helix ca n = refl
+length-points-of Sheet ca n = length-points n _ ∙ length-points n _ ∙ length-points n ca

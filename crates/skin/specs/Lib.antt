@@ -1,0 +1,3 @@
+pub mod Post
+pub mod Tube
+pub mod Box

@@ -1,0 +1,4 @@
+// The vertices of one tube, and its box, written to lent buffers.
+pub mod boxes;
+pub mod rings;
+pub mod tube;

@@ -1,0 +1,200 @@
+// The vertices of one tube: a capped ring, the rings between, and a capped ring.
+use crate::rings::put_capped;
+use crate::rings::put_ring;
+use course::residues::lay_course;
+use course::samples::frame_at;
+use course::samples::ring;
+use course::samples::tag_at;
+use shape::Kind;
+use shape::Spoke;
+use shape::section::half_sizes;
+use shape::section::spokes;
+use vectors::Vec3;
+use vectors::get_vec;
+ghost use mathlib.Core.Path.{_≡_};
+ghost use mathlib.Core.List.{List, [], _∷_, _++_};
+ghost use Prim.Native.Nat.{ℕ, _+_, _*_, _-_, _^_, _<_, _≤_};
+ghost use lib.ListN.{length, take, drop};
+ghost use Rattle.vectors.specs.Vec.{floats};
+ghost use Rattle.buffers.specs.Put.{put, upto};
+ghost use Rattle.course.specs.Residues.{oxygenAt, guidesOf, pointsOf};
+ghost use Rattle.course.specs.Samples.{frameAt, tagAt};
+ghost use Rattle.skin.specs.Tube.{vertexCount, ringPositions, ringNormals, ringTags, startNormal, endNormal, skinPositions, skinNormals, positionsOf, normalsOf, tagsOf};
+ghost use Rattle.skin.specs.Post.{Room, Wrote, Course, Residues};
+
+// The first ring and the start's centre.
+fn start_cap(
+    points: &[f32],
+    guides: &[f32],
+    positions: &mut [f32],
+    normals: &mut [f32],
+    tags: &mut [u32],
+    n: usize,
+    kind: Kind,
+    v: usize,
+    first: u32,
+    spokes: [Spoke; 8],
+)
+    requires { ⌜ Course (now points) (now guides) n first kind spokes × Room (now positions) (now normals) (now tags) (v + 9) ⌝ }
+    ensures { λ _. ⌜ Wrote (now (positions .entry)) (now (normals .entry)) (now (tags .entry)) v (ringPositions kind (now (points .entry)) (now (guides .entry)) n 0 ++ floats (frameAt (now (points .entry)) (now (guides .entry)) n 0 .position)) (ringNormals kind (now (points .entry)) (now (guides .entry)) n 0 ++ floats (startNormal (now (points .entry)) (now (guides .entry)) n)) (ringTags first n 0 ++ (tagAt first n 0 ∷ [])) (now (positions .exit)) (now (normals .exit)) (now (tags .exit)) ⌝ }
+{
+    let f = frame_at(points, guides, n, 0);
+    let r = ring(f, kind, n, 0, spokes);
+    let tag = tag_at(first, n, 0);
+    let p = f.position;
+    let back = f.tangent.scale(-1.0);
+    put_capped(positions, normals, tags, v, r, tag, p, back, tag);
+}
+
+// The rings between the first and the last.
+fn later_rings(
+    points: &[f32],
+    guides: &[f32],
+    positions: &mut [f32],
+    normals: &mut [f32],
+    tags: &mut [u32],
+    n: usize,
+    kind: Kind,
+    v: usize,
+    first: u32,
+    spokes: [Spoke; 8],
+)
+    requires { ⌜ Course (now points) (now guides) n first kind spokes × Room (now positions) (now normals) (now tags) (v + 8 * (8 * (n - 1) - 1)) ⌝ }
+    ensures { λ _. ⌜ Wrote (now (positions .entry)) (now (normals .entry)) (now (tags .entry)) v (upto (λ (s : ℕ). ringPositions kind (now (points .entry)) (now (guides .entry)) n (s + 1)) (8 * (n - 1) - 1)) (upto (λ (s : ℕ). ringNormals kind (now (points .entry)) (now (guides .entry)) n (s + 1)) (8 * (n - 1) - 1)) (upto (λ (s : ℕ). ringTags first n (s + 1)) (8 * (n - 1) - 1)) (now (positions .exit)) (now (normals .exit)) (now (tags .exit)) ⌝ }
+{
+    let total = 8 * (n - 1) - 1;
+    let mut s = 0usize;
+    let mut at = v;
+    while s < total {
+        let f = frame_at(points, guides, n, s + 1);
+        let r = ring(f, kind, n, s + 1, spokes);
+        put_ring(positions, normals, tags, at, r, tag_at(first, n, s + 1));
+        s += 1;
+        at += 8;
+    }
+}
+
+fn end_normal(points: &[f32], n: usize) -> Vec3
+    requires { ⌜ (2 ≤ n) × (length (now points) ≡ 3 * n) ⌝ }
+    ensures { λ r. ⌜ r ≡ endNormal (now (points .entry)) n ⌝ }
+{
+    get_vec(points, n - 1)
+        .sub(get_vec(points, n - 2))
+        .normalised()
+}
+
+// The last ring and the end's centre.
+fn end_cap(
+    points: &[f32],
+    guides: &[f32],
+    positions: &mut [f32],
+    normals: &mut [f32],
+    tags: &mut [u32],
+    n: usize,
+    kind: Kind,
+    v: usize,
+    first: u32,
+    spokes: [Spoke; 8],
+)
+    requires { ⌜ Course (now points) (now guides) n first kind spokes × Room (now positions) (now normals) (now tags) (v + 9) ⌝ }
+    ensures { λ _. ⌜ Wrote (now (positions .entry)) (now (normals .entry)) (now (tags .entry)) v (ringPositions kind (now (points .entry)) (now (guides .entry)) n (8 * (n - 1)) ++ floats (frameAt (now (points .entry)) (now (guides .entry)) n (8 * (n - 1)) .position)) (ringNormals kind (now (points .entry)) (now (guides .entry)) n (8 * (n - 1)) ++ floats (endNormal (now (points .entry)) n)) (ringTags first n (8 * (n - 1)) ++ ((first + (n - 1)) ∷ [])) (now (positions .exit)) (now (normals .exit)) (now (tags .exit)) ⌝ }
+{
+    let s = 8 * (n - 1);
+    let f = frame_at(points, guides, n, s);
+    let r = ring(f, kind, n, s, spokes);
+    let tag = tag_at(first, n, s);
+    let p = f.position;
+    let chord = end_normal(points, n);
+    let last = first + (n - 1) as u32;
+    put_capped(positions, normals, tags, v, r, tag, p, chord, last);
+}
+
+// All vertices over spline points and guides. What a ring takes from its half-sizes alone is computed once.
+fn skin(
+    points: &[f32],
+    guides: &[f32],
+    positions: &mut [f32],
+    normals: &mut [f32],
+    tags: &mut [u32],
+    n: usize,
+    kind: Kind,
+    v: usize,
+    first: u32,
+    spokes: [Spoke; 8],
+)
+    requires { ⌜ Course (now points) (now guides) n first kind spokes × Room (now positions) (now normals) (now tags) (v + vertexCount n) ⌝ }
+    ensures { λ _. ⌜ Wrote (now (positions .entry)) (now (normals .entry)) (now (tags .entry)) v (skinPositions kind (now (points .entry)) (now (guides .entry)) n) (skinNormals kind (now (points .entry)) (now (guides .entry)) n) (tagsOf first n) (now (positions .exit)) (now (normals .exit)) (now (tags .exit)) ⌝ }
+{
+    let later = v + 9;
+    let end = later + 8 * (8 * (n - 1) - 1);
+    start_cap(
+        points,
+        guides,
+        positions,
+        normals,
+        tags,
+        n,
+        kind,
+        v,
+        first,
+        spokes,
+    );
+    later_rings(
+        points,
+        guides,
+        positions,
+        normals,
+        tags,
+        n,
+        kind,
+        later,
+        first,
+        spokes,
+    );
+    end_cap(
+        points,
+        guides,
+        positions,
+        normals,
+        tags,
+        n,
+        kind,
+        end,
+        first,
+        spokes,
+    );
+}
+
+// One tube, from vertex v on. `course` holds 6n floats: on entry n C-alphas and then n oxygens, with a flag for each that is not 0 where there
+// is one; on exit n spline points and then n guides.
+pub fn tube_vertices(
+    flags: &[u32],
+    course: &mut [f32],
+    positions: &mut [f32],
+    normals: &mut [f32],
+    tags: &mut [u32],
+    n: usize,
+    kind: Kind,
+    v: usize,
+    first: u32,
+)
+    requires { ⌜ Residues (now flags) (now course) n first × Room (now positions) (now normals) (now tags) (v + vertexCount n) ⌝ }
+    ensures { λ _. ⌜ Wrote (now (positions .entry)) (now (normals .entry)) (now (tags .entry)) v (positionsOf kind (take (3 * n) (now (course .entry))) (oxygenAt (now (flags .entry)) (drop (3 * n) (now (course .entry)))) n) (normalsOf kind (take (3 * n) (now (course .entry))) (oxygenAt (now (flags .entry)) (drop (3 * n) (now (course .entry)))) n) (tagsOf first n) (now (positions .exit)) (now (normals .exit)) (now (tags .exit)) × (now (course .exit) ≡ pointsOf kind (take (3 * n) (now (course .entry))) n ++ guidesOf kind (take (3 * n) (now (course .entry))) (oxygenAt (now (flags .entry)) (drop (3 * n) (now (course .entry)))) n) ⌝ }
+{
+    let m = 3 * n;
+    let spokes = spokes(half_sizes(kind));
+    lay_course(flags, course, n, kind);
+    let view = &course[..];
+    skin(
+        &view[..m],
+        &view[m..],
+        positions,
+        normals,
+        tags,
+        n,
+        kind,
+        v,
+        first,
+        spokes,
+    );
+}
