@@ -23,6 +23,6 @@ placeOf s h a = vec (coordinate s (atomAt h (a - 1) + 9)) (coordinate s (atomAt 
 unfoldable pub far : Vec3 → Vec3 → Bool
 far p q = lt (lit 0x40A00000) (vlength (vsub q p))
 
--- the same between two atoms of a job
-unfoldable pub farOf : List ℕ → Head → ℕ → ℕ → Bool
-farOf s h a b = far (placeOf s h a) (placeOf s h b)
+-- the same between atoms a and b, where `place` gives an atom's position
+unfoldable pub farBy : (ℕ → Vec3) → ℕ → ℕ → Bool
+farBy place a b = far (place a) (place b)

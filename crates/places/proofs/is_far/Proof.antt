@@ -1,6 +1,6 @@
 use mathlib.Core.Path.{_≡_, refl, sym, ap, _∙_}
 use native.Mathlib.Omega.{arith}
-use Rattle.places.specs.Places.{coordinate, placeOf, far, farOf}
+use Rattle.places.specs.Places.{coordinate, placeOf, far, farBy}
 use borrow.Author.Needs.{needs}
 use Rattle.places.proofs.is_far.Statement.{statement}
 use Rattle.places.proofs.is_far.Tie as tie
@@ -23,7 +23,7 @@ is-long-requires c κs = search needs
 
 -- src/lib.rt:31:1
 returns : tie.Need-returns
-unfolding farOf
+unfolding farBy
 returns c = cc
 
 pub is-far-spec : {M : Type 1} → statement M

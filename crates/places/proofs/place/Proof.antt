@@ -1,6 +1,6 @@
 use mathlib.Core.Path.{_≡_, refl, sym, ap, _∙_}
 use native.Mathlib.Omega.{arith}
-use Rattle.places.specs.Places.{coordinate, placeOf, far, farOf}
+use Rattle.places.specs.Places.{coordinate, placeOf, far, farBy}
 use borrow.Author.Needs.{needs}
 use Rattle.places.proofs.place.Statement.{statement}
 use Rattle.places.proofs.place.Tie as tie

@@ -1,0 +1,136 @@
+-- Laws of a tube's scratch: what is loaded, and what the shape reads of it. Assumes nothing.
+use Prim.Native.Nat.{ℕ, zero, suc, _+_, _-_, _*_, _<_, _≤_}
+use mathlib.Core.Bool.{Bool, true, false, cond}
+use mathlib.Core.List.{List, [], _∷_, _++_, append-nil}
+use mathlib.Core.Path.{_≡_, refl, sym, _∙_, ap, subst, fun-ext}
+use mathlib.Core.Logic.{⊎-elim}
+use native.Mathlib.Nat.{eq-or-lt-of-le, le-of-suc-le-suc, lt-of-lt-of-le, mul-le-mul-right, suc-mul}
+use native.Mathlib.Numerals.{add-one}
+use native.Mathlib.Omega.{arith}
+use lib.ListN.{length, getD, take, drop, set, length-append, List·getD-append, List·getD-eq-default}
+use lib.Seq.{take-at, drop-at, getD-append-add}
+use lib.Dec.{eqb, ltb}
+use lib.Ieee.{Float, nan}
+use borrow.Author.Tests.{eqb-false, ltb-true, ltb-false}
+use Rattle.buffers.specs.Put.{put, upto}
+use Rattle.buffers.proofs.Puts.{next, length-upto}
+use Rattle.vectors.specs.declared.Vec3.{Vec3}
+use Rattle.vectors.specs.Vec.{vec, floats, vecAt}
+use Rattle.shape.specs.declared.Kind.{Kind}
+use Rattle.shape.specs.declared.Kind.the-variants.{Coil, Helix, Sheet}
+use Rattle.shape.specs.declared.Oxygen.{Oxygen}
+use Rattle.shape.specs.declared.Oxygen.the-variants.{At, Missing}
+use Rattle.course.specs.Residues.{oxygenAt}
+use Rattle.course.proofs.Laws.{put-all}
+use Rattle.skin.specs.Tube.{positionsOf, normalsOf, tagsOf}
+use Rattle.skin.specs.Box.{boxOf}
+use Rattle.skin.specs.Post.{Wrote}
+use Rattle.edges.specs.Tube.{tube}
+use Rattle.mesh.specs.Mesh.{kindOf, spotOf, spotAt, spots, airAt, positionsBy, normalsBy, boxBy}
+use Rattle.mesh.specs.Outs.{Outs, outs, writtenBy}
+
+pub kind-sheet : (k : ℕ) → (k ≡ 0 → ⊥) → (k ≡ 1 → ⊥) → Sheet ≡ kindOf k
+unfolding kindOf
+kind-sheet zero a b = absurd (a refl)
+kind-sheet (suc zero) a b = absurd (b refl)
+kind-sheet (suc (suc k)) a b = refl
+
+pub spot-some : (place : ℕ → Vec3) (a : ℕ) → (a ≡ 0 → ⊥) → place a ≡ spotOf place a
+unfolding spotOf
+spot-some place zero h = absurd (h refl)
+spot-some place (suc a) h = refl
+
+-- five stores in a row are one write
+pub put5 : {A : Type 0} (l : List A) (j : ℕ) (a b c d e : A)
+    → set (set (set (set (set l j a) (j + 1) b) (j + 2) c) (j + 3) d) (j + 4) e ≡ put l j (a ∷ b ∷ c ∷ d ∷ e ∷ [])
+unfolding put
+put5 l j a b c d e =
+    let p : j + 1 ≡ suc j = omega arith in
+    let q : j + 2 ≡ suc (suc j) = omega arith in
+    let r : j + 3 ≡ suc (suc (suc j)) = omega arith in
+    let s : j + 4 ≡ suc (suc (suc (suc j))) = omega arith in
+    rw (p, q, r, s)
+
+pub length-spots : (place : ℕ → Vec3) (atoms : List ℕ) → length (spots place atoms) ≡ 3 * length atoms
+unfolding spots
+length-spots place atoms = length-upto (spotAt place atoms) 3 (length atoms) (λ k h. refl) ∙ omega arith
+
+-- piece i of pieces of one width
+pub upto-at : {A : Type 0} (f : ℕ → List A) (w n i j : ℕ) (d : A) → ((k : ℕ) → length (f k) ≡ w) → i < n → j < w
+    → getD (upto f n) (i * w + j) d ≡ getD (f i) j d
+unfolding upto
+upto-at f w zero i j d hw l m = absurd (omega arith)
+upto-at f w (suc n) i j d hw l m =
+    let z = length-upto f w n (λ k h. hw k) in
+    ⊎-elim
+    (λ q. rw q (ap (λ (k : ℕ). getD (upto f n ++ f n) (k + j) d) (sym z) ∙ getD-append-add (upto f n) (f n) j d))
+    (λ b.
+    let t : i * w + j < length (upto f n) = rw z (within i n w j b m) in
+    List·getD-append (upto f n) (f n) d (i * w + j) t ∙ upto-at f w n i j d hw b m)
+    (eq-or-lt-of-le (le-of-suc-le-suc l))
+  where
+    within : (i n w j : ℕ) → i < n → j < w → i * w + j < n * w
+    within i n w j b m = lt-of-lt-of-le (let e : suc i * w ≡ i * w + w = suc-mul i w in omega arith) (mul-le-mul-right w b)
+
+pub spots-at : (place : ℕ → Vec3) (atoms : List ℕ) (i : ℕ) → i < length atoms → vecAt (spots place atoms) i ≡ spotOf place (getD atoms i 0)
+unfolding spots vecAt
+spots-at place atoms i h =
+    let one : (j : ℕ) → j < 3 → getD (upto (spotAt place atoms) (length atoms)) (i * 3 + j) nan ≡ getD (spotAt place atoms i) j nan
+    = λ j m. upto-at (spotAt place atoms) 3 (length atoms) i j nan (λ k. refl) h m in
+    let e0 : 3 * i ≡ i * 3 + 0 = omega arith in
+    let e1 : 3 * i + 1 ≡ i * 3 + 1 = omega arith in
+    let e2 : 3 * i + 2 ≡ i * 3 + 2 = omega arith in
+    rw (e1, e2, e0, one 0 (omega arith), one 1 (omega arith), one 2 (omega arith))
+
+-- what the shape reads as oxygens: those that the table names
+pub airs : (place : ℕ → Vec3) (atoms : List ℕ) → oxygenAt atoms (spots place atoms) ≡ airAt place atoms
+unfolding oxygenAt airAt
+airs place atoms = fun-ext (λ i. go i (eqb (getD atoms i 0) 0) refl)
+  where
+    past : (i : ℕ) → (getD atoms i 0 ≡ 0 → ⊥) → i < length atoms
+    past i h = by (ltb i (length atoms)) refl
+      where
+        by : (b : Bool) → ltb i (length atoms) ≡ b → i < length atoms
+        by true e = ltb-true i (length atoms) e
+        by false e = absurd (h (List·getD-eq-default atoms 0 (ltb-false i (length atoms) e)))
+
+    go : (i : ℕ) (b : Bool) → eqb (getD atoms i 0) 0 ≡ b
+        → cond b Missing (At (vecAt (spots place atoms) i .x) (vecAt (spots place atoms) i .y) (vecAt (spots place atoms) i .z))
+        ≡ cond b Missing (At (place (getD atoms i 0) .x) (place (getD atoms i 0) .y) (place (getD atoms i 0) .z))
+    go i true e = refl
+    go i false e =
+        let n = eqb-false (getD atoms i 0) 0 e in
+        rw (spots-at place atoms i (past i n), ← spot-some place (getD atoms i 0) n)
+
+-- both loads: the whole course
+pub course-is : (place : ℕ → Vec3) (alphas oxygens : List ℕ) (c₀ c c′ : List Float) → length oxygens ≡ length alphas → length c₀ ≡ 6 * length alphas
+    → c ≡ put c₀ 0 (spots place alphas) → c′ ≡ put c (3 * length alphas) (spots place oxygens) → c′ ≡ spots place alphas ++ spots place oxygens
+course-is place alphas oxygens c₀ c c′ n w e f =
+    let a = length-spots place alphas in
+    let o = length-spots place oxygens in
+    next c₀ c 0 (3 * length alphas) (spots place alphas) (spots place oxygens) f e (omega arith)
+    ∙ put-all c₀ (spots place alphas ++ spots place oxygens) refl (omega (arith, length-append (spots place alphas) (spots place oxygens)))
+
+-- the whole of a tube, from what each writer left: `c` is the loaded course
+pub written-is : (place : ℕ → Vec3) (kind first : ℕ) (alphas oxygens : List ℕ) (k v t : ℕ) (o : Outs) (c : List Float) (x : Kind) {p n b : List Float} {g y r : List ℕ}
+    → c ≡ spots place alphas ++ spots place oxygens
+    → x ≡ kindOf kind
+    → b ≡ put (o .boxes) (6 * k) (boxOf (take (3 * length alphas) c) (length alphas))
+    → Wrote (o .positions) (o .normals) (o .tags) v
+    (positionsOf x (take (3 * length alphas) c) (oxygenAt oxygens (drop (3 * length alphas) c)) (length alphas))
+    (normalsOf x (take (3 * length alphas) c) (oxygenAt oxygens (drop (3 * length alphas) c)) (length alphas))
+    (tagsOf first (length alphas)) p n g
+    → y ≡ put (o .triangles) (3 * t) (tube 8 8 v (length alphas))
+    → r ≡ put (o .tubes) (5 * k) (kind ∷ first ∷ length alphas ∷ v ∷ t ∷ [])
+    → outs p n g y r b ≡ writtenBy place kind first alphas oxygens k v t o
+unfolding writtenBy positionsBy normalsBy boxBy
+written-is place kind first alphas oxygens k v t o c x {p} {n} {b} {g} {y} {r} e q hb w hy hr =
+    let l = length-spots place alphas in
+    let a : take (3 * length alphas) c ≡ spots place alphas = ap (take (3 * length alphas)) e ∙ take-at (spots place alphas) (spots place oxygens) _ l in
+    let d : drop (3 * length alphas) c ≡ spots place oxygens = ap (drop (3 * length alphas)) e ∙ drop-at (spots place alphas) (spots place oxygens) _ l in
+    let i : oxygenAt oxygens (drop (3 * length alphas) c) ≡ airAt place oxygens = ap (oxygenAt oxygens) d ∙ airs place oxygens in
+    let hp : p ≡ put (o .positions) (3 * v) (positionsOf (kindOf kind) (spots place alphas) (airAt place oxygens) (length alphas)) = rw (a, i, q) at (w .pos) in
+    let hn : n ≡ put (o .normals) (3 * v) (normalsOf (kindOf kind) (spots place alphas) (airAt place oxygens) (length alphas)) = rw (a, i, q) at (w .norm) in
+    let hg : g ≡ put (o .tags) v (tagsOf first (length alphas)) = w .tag in
+    let hx : b ≡ put (o .boxes) (6 * k) (boxOf (spots place alphas) (length alphas)) = rw a at hb in
+    cc

@@ -1,0 +1,25 @@
+use mathlib.Core.Path.{_≡_, refl, sym, ap, _∙_}
+use Rattle.mesh.specs.Mesh.{spotOf}
+use Rattle.mesh.proofs.Laws.{spot-some}
+use borrow.Author.Needs.{needs}
+use Rattle.mesh.proofs.spot.Statement.{statement}
+use Rattle.mesh.proofs.spot.Tie as tie
+use Rattle.mesh.proofs.spot.Reads as reads
+use Rattle.mesh.proofs.spot.Lts as lts
+use Rattle.places.proofs.place.Reads as place-reads
+
+-- src/lib.rt:39:9
+returns : tie.Need-returns
+unfolding spotOf
+returns c = rw (c .if1 .taken)
+
+-- src/lib.rt:45:5
+place-requires : tie.Need-place-requires
+place-requires c κs = search needs
+
+-- src/lib.rt:34:1
+returns-2 : tie.Need-returns-2
+returns-2 c = c .place .ensures ∙ spot-some _ _ (c .before .if1 .left)
+
+pub spot-spec : {M : Type 1} → statement M
+spot-spec = tie.close (tie.spec returns place-requires returns-2)

@@ -1,0 +1,3 @@
+pub mod Protein
+pub mod Mesh
+pub mod Outs
