@@ -1,5 +1,6 @@
 -- The root is the nearest, in plain arithmetic and over the format. r and b count smallest values of the format f, and n its squares. A finite value of f is m * 2 ^ j of them with m below 2 ^ prec.
--- `nearest-root`: the half-way point of r and any smaller value has a square of at most n, and that of r and any larger value one of at least n. Assumes nothing.
+-- `IsNearest`: the half-way point of r and any smaller value has a square of at most n, and that of r and any larger value one of at least n; where
+-- another value is as near, the last of r's prec digits is even. Assumes nothing.
 use mathlib.Core.Path.{_≡_, refl, sym, ap, _∙_, subst}
 use mathlib.Core.Logic.{_⊎_, inl, inr}
 use Prim.Native.Nat.{ℕ, zero, suc, _+_, _-_, _*_, _/_, _%_, _^_, _≤_, _<_, compare, Ordering, Ordering·lt, Ordering·eq, Ordering·gt}
@@ -38,10 +39,47 @@ gap f v k m j lo M h = go (ltb j k) (ltb→lt j k) (nltb→le j k)
         ap (λ (x : ℕ). m * x) (ap (λ (x : ℕ). 2 ^ x) (sym (join j k (q tt))) ∙ pow-add 2 k (j - k) ∙ mul-comm (2 ^ k) (2 ^ (j - k))) ∙ sym (mul-assoc m (2 ^ (j - k)) (2 ^ k)) in
         subst (λ (x : ℕ). suc v * 2 ^ k ≤ x) (sym e) (mul-le-mul-right (2 ^ k) (lt-of-mul-lt-mul-right (2 ^ k) (subst (λ (x : ℕ). v * 2 ^ k < x) e h)))
 
--- r is the nearest to √n among the numbers of smallest values that f holds
+-- r has prec digits, and the last is even
+pub record LastEven (f : Format) (r : ℕ) : Type 0 where
+  pub digits : ℕ
+  pub power : ℕ
+  pub is : r ≡ digits * 2 ^ power
+  pub lead : hid f ≤ digits
+  pub even : digits % 2 ≡ 0
+
+-- what holds of r where another value is as near to √n
+abbrev Tie : Format → ℕ → ℕ → Type 0
+Tie f n r = (m j : ℕ) → m < 2 ^ prec f → (m * 2 ^ j ≡ r → ⊥) → (r + m * 2 ^ j) * (r + m * 2 ^ j) ≡ 4 * n → LastEven f r
+
+-- r is the nearest to √n among the numbers of smallest values that f holds, a tie to the even one
 pub record IsNearest (f : Format) (n r : ℕ) : Type 0 where
   pub below : (m j : ℕ) → m < 2 ^ prec f → m * 2 ^ j < r → (r + m * 2 ^ j) * (r + m * 2 ^ j) ≤ 4 * n
   pub above : (m j : ℕ) → m < 2 ^ prec f → r < m * 2 ^ j → 4 * n ≤ (r + m * 2 ^ j) * (r + m * 2 ^ j)
+  pub tie : (m j : ℕ) → m < 2 ^ prec f → (m * 2 ^ j ≡ r → ⊥) → (r + m * 2 ^ j) * (r + m * 2 ^ j) ≡ 4 * n → LastEven f r
+
+sq-more : (a b : ℕ) → a < b → a * a < b * b
+sq-more a b h = lt-of-le-of-lt (mul-le-mul-left a (le-of-lt h)) (mul-lt-mul-of-pos-right h (above-some a b h))
+  where
+    above-some : (a b : ℕ) → a < b → 0 < b
+    above-some a b h = omega arith
+
+-- by where y lies from r
+apart : (r y : ℕ) → (y ≡ r → ⊥) → (y < r) ⊎ (r < y)
+apart r y d = go (compare y r) (cmp y r)
+  where
+    go : (o : Ordering) → Cmp o y r → (y < r) ⊎ (r < y)
+    go Ordering·lt c = inl c
+    go Ordering·eq c = absurd (d c)
+    go Ordering·gt c = inr c
+
+add-le : (r x y : ℕ) → x ≤ y → r + x ≤ r + y
+add-le r x y l = omega arith
+
+add-lt : (r x y : ℕ) → x < y → r + x < r + y
+add-lt r x y l = omega arith
+
+flipped : (x y z : ℕ) → y ≤ z → x + y ≤ z + x
+flipped x y z l = omega arith
 
 quad : (x : ℕ) → (x + x) * (x + x) ≡ 4 * (x * x)
 quad x = ap (λ (y : ℕ). y * y) (sym (two-mul x)) ∙ mul-mul-mul-comm 2 x 2 x
@@ -53,53 +91,80 @@ module _ (f : Format) (n v k : ℕ) (lo : hid f ≤ v) (a : v * 2 ^ k * (v * 2 ^
       tidy : (v : ℕ) → v + suc v ≡ 2 * v + 1
       tidy v = omega arith
 
-  keeps : 4 * n ≤ (2 * v + 1) * 2 ^ k * ((2 * v + 1) * 2 ^ k) → IsNearest f n (v * 2 ^ k)
-  keeps h = record {
-    below = λ m j M l. le-trans (mul-le-mul (less (v * 2 ^ k) (m * 2 ^ j) l) (less (v * 2 ^ k) (m * 2 ^ j) l)) (le-trans (le-of-eq (quad (v * 2 ^ k))) (mul-le-mul-left 4 a));
+  next-below : (m j : ℕ) → m < 2 ^ prec f → m * 2 ^ j < suc v * 2 ^ k → m * 2 ^ j ≤ v * 2 ^ k
+  next-below m j M l = le-of-suc-le-suc (lt-of-not-le (λ (g : suc (v * 2 ^ k) ≤ m * 2 ^ j). not-le-of-lt l (gap f v k m j lo M g)))
+
+  keeps : 4 * n ≤ (2 * v + 1) * 2 ^ k * ((2 * v + 1) * 2 ^ k) → Tie f n (v * 2 ^ k) → IsNearest f n (v * 2 ^ k)
+  keeps h t = record {
+    tie = t;
+    below = λ m j M l. le-trans (mul-le-mul (add-le (v * 2 ^ k) (m * 2 ^ j) (v * 2 ^ k) (le-of-lt l)) (add-le (v * 2 ^ k) (m * 2 ^ j) (v * 2 ^ k) (le-of-lt l))) (le-trans (le-of-eq (quad (v * 2 ^ k))) (mul-le-mul-left 4 a));
     above = λ m j M l.
-        let g : (2 * v + 1) * 2 ^ k ≤ v * 2 ^ k + m * 2 ^ j = le-trans (le-of-eq (sym mid)) (more (v * 2 ^ k) (suc v * 2 ^ k) (m * 2 ^ j) (gap f v k m j lo M l)) in
+        let g : (2 * v + 1) * 2 ^ k ≤ v * 2 ^ k + m * 2 ^ j = le-trans (le-of-eq (sym mid)) (add-le (v * 2 ^ k) (suc v * 2 ^ k) (m * 2 ^ j) (gap f v k m j lo M l)) in
         le-trans h (mul-le-mul g g);
   }
-    where
-      less : (r y : ℕ) → y < r → r + y ≤ r + r
-      less r y l = omega arith
 
-      more : (r x y : ℕ) → x ≤ y → r + x ≤ r + y
-      more r x y l = omega arith
-
-  moves : (2 * v + 1) * 2 ^ k * ((2 * v + 1) * 2 ^ k) ≤ 4 * n → IsNearest f n (suc v * 2 ^ k)
-  moves h = record {
+  moves : (2 * v + 1) * 2 ^ k * ((2 * v + 1) * 2 ^ k) ≤ 4 * n → Tie f n (suc v * 2 ^ k) → IsNearest f n (suc v * 2 ^ k)
+  moves h t = record {
+    tie = t;
     below = λ m j M l.
-        let g : suc v * 2 ^ k + m * 2 ^ j ≤ (2 * v + 1) * 2 ^ k = le-trans (under (suc v * 2 ^ k) (m * 2 ^ j) (v * 2 ^ k) (lt-of-not-le' m j M l)) (le-of-eq mid) in
+        let g : suc v * 2 ^ k + m * 2 ^ j ≤ (2 * v + 1) * 2 ^ k = le-trans (flipped (suc v * 2 ^ k) (m * 2 ^ j) (v * 2 ^ k) (next-below m j M l)) (le-of-eq mid) in
         le-trans (mul-le-mul g g) h;
-    above = λ m j M l. le-trans (mul-le-mul-left 4 (le-of-lt b)) (le-trans (le-of-eq (sym (quad (suc v * 2 ^ k)))) (mul-le-mul (more (suc v * 2 ^ k) (m * 2 ^ j) l) (more (suc v * 2 ^ k) (m * 2 ^ j) l)));
+    above = λ m j M l. le-trans (mul-le-mul-left 4 (le-of-lt b)) (le-trans (le-of-eq (sym (quad (suc v * 2 ^ k)))) (mul-le-mul (add-le (suc v * 2 ^ k) (suc v * 2 ^ k) (m * 2 ^ j) (le-of-lt l)) (add-le (suc v * 2 ^ k) (suc v * 2 ^ k) (m * 2 ^ j) (le-of-lt l))));
   }
+
+  -- off the half-way point no other value is as near
+  no-tie-low : 4 * n < (2 * v + 1) * 2 ^ k * ((2 * v + 1) * 2 ^ k) → Tie f n (v * 2 ^ k)
+  no-tie-low h m j M d e = absurd (go (apart (v * 2 ^ k) (m * 2 ^ j) d))
     where
-      under : (x y z : ℕ) → y ≤ z → x + y ≤ z + x
-      under x y z l = omega arith
+      go : (m * 2 ^ j < v * 2 ^ k) ⊎ (v * 2 ^ k < m * 2 ^ j) → ⊥
+      go (inl l) =
+          let r : ℕ = v * 2 ^ k in
+          let y : ℕ = m * 2 ^ j in
+          lt-irrefl (4 * n)
+          (lt-of-lt-of-le (subst (λ (x : ℕ). x < (r + r) * (r + r)) e (sq-more (r + y) (r + r) (add-lt r y r l)))
+          (le-trans (le-of-eq (quad r)) (mul-le-mul-left 4 a)))
+      go (inr l) =
+          let r : ℕ = v * 2 ^ k in
+          let y : ℕ = m * 2 ^ j in
+          let g : (2 * v + 1) * 2 ^ k ≤ r + y = le-trans (le-of-eq (sym mid)) (add-le r (suc v * 2 ^ k) y (gap f v k m j lo M l)) in
+          lt-irrefl (4 * n) (lt-of-lt-of-le h (subst (λ (x : ℕ). (2 * v + 1) * 2 ^ k * ((2 * v + 1) * 2 ^ k) ≤ x) e (mul-le-mul g g)))
 
-      more : (r y : ℕ) → r < y → r + r ≤ r + y
-      more r y l = omega arith
+  no-tie-high : (2 * v + 1) * 2 ^ k * ((2 * v + 1) * 2 ^ k) < 4 * n → Tie f n (suc v * 2 ^ k)
+  no-tie-high h m j M d e = absurd (go (apart (suc v * 2 ^ k) (m * 2 ^ j) d))
+    where
+      go : (m * 2 ^ j < suc v * 2 ^ k) ⊎ (suc v * 2 ^ k < m * 2 ^ j) → ⊥
+      go (inl l) =
+          let r : ℕ = suc v * 2 ^ k in
+          let y : ℕ = m * 2 ^ j in
+          let g : r + y ≤ (2 * v + 1) * 2 ^ k = le-trans (flipped r y (v * 2 ^ k) (next-below m j M l)) (le-of-eq mid) in
+          lt-irrefl (4 * n) (lt-of-le-of-lt (subst (λ (x : ℕ). x ≤ (2 * v + 1) * 2 ^ k * ((2 * v + 1) * 2 ^ k)) e (mul-le-mul g g)) h)
+      go (inr l) =
+          let r : ℕ = suc v * 2 ^ k in
+          let y : ℕ = m * 2 ^ j in
+          lt-irrefl (4 * n)
+          (lt-of-le-of-lt (le-trans (mul-le-mul-left 4 (le-of-lt b)) (le-of-eq (sym (quad r))))
+          (subst (λ (x : ℕ). (r + r) * (r + r) < x) e (sq-more (r + r) (r + y) (add-lt r r y l))))
 
-      lt-of-not-le' : (m j : ℕ) → m < 2 ^ prec f → m * 2 ^ j < suc v * 2 ^ k → m * 2 ^ j ≤ v * 2 ^ k
-      lt-of-not-le' m j M l = le-of-suc-le-suc (lt-of-not-le (λ (g : suc (v * 2 ^ k) ≤ m * 2 ^ j). not-le-of-lt l (gap f v k m j lo M g)))
-
-  -- by how 4 n compares with the square of twice the half-way point; at a tie either is as near
+  -- by how 4 n compares with the square of twice the half-way point; at a tie either is as near, and the even one is taken
   picked : (o : Ordering) → Cmp o (4 * n) ((2 * v + 1) * 2 ^ k * ((2 * v + 1) * 2 ^ k)) → IsNearest f n (nearest v o * 2 ^ k)
-  picked Ordering·lt c = keeps (le-of-lt c)
-  picked Ordering·eq c = go (v % 2) (bit v)
+  picked Ordering·lt c = keeps (le-of-lt c) (no-tie-low c)
+  picked Ordering·eq c = go (v % 2) refl
     where
-      bit : (v : ℕ) → v % 2 ≤ 1
-      bit v = omega arith
+      odd-next : (v t : ℕ) → v % 2 ≡ suc t → suc v % 2 ≡ 0
+      odd-next v t h = omega arith
 
-      go : (t : ℕ) → t ≤ 1 → IsNearest f n ((v + t) * 2 ^ k)
-      go zero h = subst (λ (x : ℕ). IsNearest f n (x * 2 ^ k)) (sym (add-zero v)) (keeps (le-of-eq c))
-      go (suc zero) h = subst (λ (x : ℕ). IsNearest f n (x * 2 ^ k)) (sym (add-one v)) (moves (le-of-eq (sym c)))
-      go (suc (suc t)) h = absurd (no t h)
-        where
-          no : (t : ℕ) → suc (suc t) ≤ 1 → ⊥
-          no t h = omega arith
-  picked Ordering·gt c = moves (le-of-lt c)
+      one-only : (v t : ℕ) → v % 2 ≡ suc (suc t) → ⊥
+      one-only v t h = omega arith
+
+      go : (t : ℕ) → v % 2 ≡ t → IsNearest f n ((v + t) * 2 ^ k)
+      go zero h =
+          subst (λ (x : ℕ). IsNearest f n (x * 2 ^ k)) (sym (add-zero v))
+          (keeps (le-of-eq c) (λ _ _ _ _ _. record { digits = v; power = k; is = refl; lead = lo; even = h }))
+      go (suc zero) h =
+          subst (λ (x : ℕ). IsNearest f n (x * 2 ^ k)) (sym (add-one v))
+          (moves (le-of-eq (sym c)) (λ _ _ _ _ _. record { digits = suc v; power = k; is = refl; lead = le-trans lo (le-of-lt (lt-suc-self v)); even = odd-next v zero h }))
+      go (suc (suc t)) h = absurd (one-only v t h)
+  picked Ordering·gt c = moves (le-of-lt c) (no-tie-high c)
 
 -- an n from the square of hid on: the root is in the normal range. Every x above zero has such an n (`root-is-nearest`)
 module _ (f : Format) (n : ℕ) (big : hid f * hid f ≤ n) where

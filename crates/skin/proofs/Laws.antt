@@ -14,11 +14,12 @@ use Rattle.buffers.specs.Put.{put, upto}
 use Rattle.buffers.proofs.Puts.{next, turn, kept, length-upto}
 use Rattle.shape.specs.declared.Kind.{Kind}
 use Rattle.shape.specs.declared.Spoke.{Spoke}
+use Rattle.shape.specs.declared.Oxygen.{Oxygen}
 use Rattle.shape.specs.Ring.{halfSizes, spokesOf}
 use Rattle.course.specs.Residues.{oxygenAt, guidesOf, pointsOf}
 use Rattle.course.proofs.Laws.{rest, length-guides-of, length-points-of}
 use Rattle.skin.specs.Post.{Room, Wrote, Course, Residues}
-use Rattle.skin.specs.Tube.{ordered, eight, ringPositions, ringNormals, ringTags, skinPositions, skinNormals, positionsOf, normalsOf}
+use Rattle.skin.specs.Tube.{vertexCount, ordered, eight, ringPositions, ringNormals, ringTags, skinPositions, skinNormals, positionsOf, normalsOf, tagsOf}
 use Rattle.skin.specs.Box.{onEach, over}
 
 -- the three buffers at once: one write after another
@@ -77,6 +78,28 @@ length-normals kind p g n s = length-eight _
 pub length-tags : (first n s : ℕ) → length (ringTags first n s) ≡ 8
 unfolding ringTags
 length-tags first n s = refl
+
+length-ordered : {A : Type 0} (c d n : ℕ) (ring : ℕ → List A) (start end : List A) → ((s : ℕ) → length (ring s) ≡ c) → length start ≡ d → length end ≡ d
+    → length (ordered n ring start end) ≡ c + d + 8 * (n - 1) * c + d
+unfolding ordered
+length-ordered c d n ring start end hr hs he =
+    let lu = length-upto (λ (s : ℕ). ring (s + 1)) c (8 * (n - 1)) (λ s _. hr (s + 1)) in
+    simp (length-append, hr, hs, he, lu)
+
+-- a tube has vertexCount n vertices in each of the three
+pub length-positions-of : (kind : Kind) (ca : List Float) (o : ℕ → Oxygen) (n : ℕ) → length (positionsOf kind ca o n) ≡ 3 * vertexCount n
+unfolding positionsOf skinPositions
+length-positions-of kind ca o n =
+    length-ordered 24 3 n _ _ _ (length-positions kind (pointsOf kind ca n) (guidesOf kind ca o n) n) refl refl ∙ omega arith
+
+pub length-normals-of : (kind : Kind) (ca : List Float) (o : ℕ → Oxygen) (n : ℕ) → length (normalsOf kind ca o n) ≡ 3 * vertexCount n
+unfolding normalsOf skinNormals
+length-normals-of kind ca o n =
+    length-ordered 24 3 n _ _ _ (length-normals kind (pointsOf kind ca n) (guidesOf kind ca o n) n) refl refl ∙ omega arith
+
+pub length-tags-of : (first n : ℕ) → length (tagsOf first n) ≡ vertexCount n
+unfolding tagsOf
+length-tags-of first n = length-ordered 8 1 n _ _ _ (length-tags first n) refl refl ∙ omega arith
 
 -- one buffer, written in three parts: the first ring with the start's centre, the rings between, and the last ring with the end's centre. A
 -- ring fills c places and a centre d

@@ -1,9 +1,9 @@
--- Vectors of three f32. Each operation is one of IEEE 754's, at binary32, in the order written.
-use mathlib.Core.Bool.{Bool, true, false, cond}
+-- Vectors of three f32, and flat lists of them. 01: 'Every operation is f32 and rounds once, in the order the Rust writes it'
+use mathlib.Core.Bool.{cond}
 use mathlib.Core.List.{List, [], _∷_}
 use Prim.Native.Nat.{ℕ, _+_, _*_}
 use lib.ListN.{getD}
-use lib.Ieee.{Float, nan, binary32, ofBits, add, sub, mul, div, eq, neg}
+use lib.Ieee.{Float, nan, binary32, ofBits, add, sub, mul, div, eq}
 use Rattle.floats.specs.Floats.{root}
 use Rattle.vectors.specs.declared.Vec3.{Vec3}
 
@@ -32,7 +32,7 @@ vec x y z = record { x = x; y = y; z = z }
 abbrev pub vzero : Vec3
 vzero = vec (lit 0) (lit 0) (lit 0)
 
--- what lies past the end of an array of vectors
+-- what an array of vectors has past its end
 abbrev pub vpast : Vec3
 vpast = vec nan nan nan
 
@@ -45,27 +45,29 @@ vsub a b = vec (f- (a .x) (b .x)) (f- (a .y) (b .y)) (f- (a .z) (b .z))
 unfoldable pub vscale : Vec3 → Float → Vec3
 vscale a k = vec (f* (a .x) k) (f* (a .y) k) (f* (a .z) k)
 
+-- 01: 'Dot: (xx + yy) + zz'
 unfoldable pub vdot : Vec3 → Vec3 → Float
 vdot a b = f+ (f+ (f* (a .x) (b .x)) (f* (a .y) (b .y))) (f* (a .z) (b .z))
 
+-- 01: 'Cross of a and b: (ay bz - az by, az bx - ax bz, ax by - ay bx)'
 unfoldable pub vcross : Vec3 → Vec3 → Vec3
 vcross a b =
     vec (f- (f* (a .y) (b .z)) (f* (a .z) (b .y)))
     (f- (f* (a .z) (b .x)) (f* (a .x) (b .z)))
     (f- (f* (a .x) (b .y)) (f* (a .y) (b .x)))
 
--- the root of (xx + yy) + zz
+-- 01: 'Length: square root of (xx + yy) + zz'
 unfoldable pub vlength : Vec3 → Float
 vlength a = root binary32 (vdot a a)
 
--- the components times 1 / length; length 0 gives the zero vector
+-- 01: 'Normalising: components times (1 / length); length 0 gives the zero vector', for the length l
 abbrev pub normalisedBy : Vec3 → Float → Vec3
 normalisedBy a l = cond (eq l (lit 0)) vzero (vscale a (f/ one l))
 
 unfoldable pub normalised : Vec3 → Vec3
 normalised a = normalisedBy a (vlength a)
 
--- the three floats of a vector, and vector i of a flat list
+-- 01: 'A vector is one record of three f32 fields': its floats in a buffer, and vector i of a buffer
 abbrev pub floats : Vec3 → List Float
 floats v = v .x ∷ v .y ∷ v .z ∷ []
 

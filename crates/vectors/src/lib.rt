@@ -64,6 +64,7 @@ impl Vec3 {
         floats::root::square_root(self.dot(self))
     }
 
+    // Length 0 is a case of its own: it has no direction.
     pub fn normalised(self) -> Vec3
         ensures { λ r. ⌜ r ≡ normalised self ⌝ }
     {
@@ -92,6 +93,7 @@ pub fn get_vec(s: &[f32], i: usize) -> Vec3
     }
 }
 
+// Three floats from place `at` on.
 pub fn put_vec(out: &mut [f32], at: usize, v: Vec3)
     requires { ⌜ at + 3 ≤ length (now out) ⌝ }
     ensures { λ _. ⌜ now (out .exit) ≡ put (now (out .entry)) at (floats v) ⌝ }

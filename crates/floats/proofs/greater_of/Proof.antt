@@ -4,18 +4,13 @@ use Rattle.floats.proofs.Written.{differs}
 use Rattle.floats.proofs.Signs.{of-nan, of-test}
 use Rattle.floats.proofs.greater_of.Statement.{statement}
 use Rattle.floats.proofs.greater_of.Tie as tie
-use Rattle.floats.proofs.greater_of.Reads as reads
-use Rattle.floats.proofs.greater_of.Lts as lts
 
--- src/lib.rt:23:9
 returns : tie.Need-returns
 returns c = of-nan (c .before .args .x) (c .before .args .y) (differs (c .before .args .x) (c .if1 .taken))
 
--- src/lib.rt:26:9
 returns-2 : tie.Need-returns-2
 returns-2 c = let a = c .before .before .args in of-test (a .x) (a .y) true (same-no-nan (a .x) (c .before .if1 .left)) (c .if2 .taken)
 
--- src/lib.rt:19:1
 returns-3 : tie.Need-returns-3
 returns-3 c = let a = c .before .before .args in of-test (a .x) (a .y) false (same-no-nan (a .x) (c .before .if1 .left)) (c .if2 .left)
 

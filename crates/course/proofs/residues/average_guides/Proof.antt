@@ -6,29 +6,19 @@ use Rattle.course.proofs.Laws.{length-same}
 use borrow.Author.Needs.{needs}
 use Rattle.course.proofs.residues.average_guides.Statement.{statement}
 use Rattle.course.proofs.residues.average_guides.Tie as tie
-use Rattle.course.proofs.residues.average_guides.Reads as reads
-use Rattle.course.proofs.residues.average_guides.Lts as lts
-use Rattle.course.proofs.residues.fill.Reads as fill-reads
-use Rattle.course.proofs.residues.sum.Reads as sum-reads
-use Rattle.vectors.proofs.Vec3.normalised.Reads as normalised-reads
 
--- src/residues.rt:113:13
 sum-requires : tie.Need-sum-requires
 sum-requires c κs = search needs
 
--- src/residues.rt:113:9
 normalised-requires : tie.Need-normalised-requires
 normalised-requires c κs = search needs
 
--- src/residues.rt:114:5
 fill-requires : tie.Need-fill-requires
 fill-requires c κs = search needs
 
--- src/residues.rt:108:1
 same-length : tie.Need-same-length
 same-length c = search needs
 
--- src/residues.rt:108:1
 returns : tie.Need-returns
 unfolding settled
 returns c = rw (c .before .before .fill .ensures, c .before .before .before .before .normalised .ensures, c .before .before .before .before .before .sum .ensures)

@@ -10,9 +10,6 @@ use Rattle.course.specs.Residues.{same}
 use Rattle.course.proofs.Laws.{whole}
 use Rattle.course.proofs.residues.fill.Statement.{statement}
 use Rattle.course.proofs.residues.fill.Tie as tie
-use Rattle.course.proofs.residues.fill.Reads as reads
-use Rattle.course.proofs.residues.fill.Lts as lts
-use Rattle.vectors.proofs.put_vec.Reads as put-vec-reads
 
 abbrev Inv-loop : tie.InvT-loop
 Inv-loop g₀ n v i₀ g i = (i ≤ n) × (g ≡ put g₀ 0 (upto (λ (j : ℕ). floats v) i))
@@ -20,36 +17,28 @@ Inv-loop g₀ n v i₀ g i = (i ≤ n) × (g ≡ put g₀ 0 (upto (λ (j : ℕ).
 abbrev μ-loop : tie.MeasureT-loop
 μ-loop g₀ n v i₀ g i = n - i
 
--- src/residues.rt:102:5
 loop-holds : tie.Need-loop-holds Inv-loop μ-loop
 unfolding put upto
 loop-holds c = (omega arith, refl)
 
--- src/residues.rt:103:20
 mul-put-vec : tie.Need-mul-put-vec Inv-loop μ-loop
 mul-put-vec c = search needs
 
--- src/residues.rt:103:9
 put-vec-requires : tie.Need-put-vec-requires Inv-loop μ-loop
 put-vec-requires c κs = omega (arith, kept _ _ _ (c .before .before .loop .inv .1))
 
--- src/residues.rt:104:9
 add-i : tie.Need-add-i Inv-loop μ-loop
 add-i c = search needs
 
--- src/residues.rt:102:5
 loop-less : tie.Need-loop-less Inv-loop μ-loop
 loop-less c = search needs
 
--- src/residues.rt:102:5
 loop-again : tie.Need-loop-again Inv-loop μ-loop
 loop-again c = (omega arith, turn _ 3 (λ _. refl) _ 0 _ (c .before .before .before .before .before .loop .i) (c .before .before .put-vec .ensures) (c .before .before .before .before .before .loop .inv .1) (omega arith))
 
--- src/residues.rt:97:1
 same-length : tie.Need-same-length Inv-loop μ-loop
 same-length c = kept _ _ _ (c .before .loop .inv .1)
 
--- src/residues.rt:97:1
 returns : tie.Need-returns Inv-loop μ-loop
 unfolding same
 returns c = whole _ _ (c .before .loop .i) _ (λ _. refl) (c .before .loop .inv .1) (search needs) (omega arith)

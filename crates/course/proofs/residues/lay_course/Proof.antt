@@ -7,38 +7,27 @@ use Rattle.course.proofs.Laws.{length-laid, smoothable, laid-points}
 use borrow.Author.Needs.{needs}
 use Rattle.course.proofs.residues.lay_course.Statement.{statement}
 use Rattle.course.proofs.residues.lay_course.Tie as tie
-use Rattle.course.proofs.residues.lay_course.Reads as reads
-use Rattle.course.proofs.residues.lay_course.Lts as lts
-use Rattle.course.proofs.residues.lay_guides.Reads as lay-guides-reads
-use Rattle.course.proofs.residues.straighten.Reads as straighten-reads
 
--- src/residues.rt:162:13
 mul-m : tie.Need-mul-m
 mul-m c = search needs
 
--- src/residues.rt:163:5
 lay-guides-requires : tie.Need-lay-guides-requires
 lay-guides-requires c κs = search needs
 
--- src/residues.rt:164:16
 slice-relend-prefix-straighten : tie.Need-slice-relend-prefix-straighten
 slice-relend-prefix-straighten c = search needs
 
--- src/residues.rt:164:16
 slice-aggregate-straighten : tie.Need-slice-aggregate-straighten
 slice-aggregate-straighten c = let g = guidesOf (c .before .before .before .before .before .before .before .args .kind) (take (3 * c .before .before .before .before .before .before .before .args .n) (now (c .before .before .before .before .before .before .before .args .course))) (oxygenAt (now (c .before .before .before .before .before .before .before .args .flags)) (drop (3 * c .before .before .before .before .before .before .before .args .n) (now (c .before .before .before .before .before .before .before .args .course)))) (c .before .before .before .before .before .before .before .args .n) in
     sym (length-laid (now (c .before .before .before .before .before .before .before .args .flags)) (now (c .before .before .before .before .before .before .before .args .course)) (c .before .before .before .before .before .before .before .args .n) (c .before .before .before .before .before .before .before .pre .2) g (c .before .before .before .lay-guides .ensures))
 
--- src/residues.rt:164:5
 straighten-requires : tie.Need-straighten-requires
 straighten-requires c κs = let g = guidesOf (c .before .before .before .before .before .before .before .args .kind) (take (3 * c .before .before .before .before .before .before .before .args .n) (now (c .before .before .before .before .before .before .before .args .course))) (oxygenAt (now (c .before .before .before .before .before .before .before .args .flags)) (drop (3 * c .before .before .before .before .before .before .before .args .n) (now (c .before .before .before .before .before .before .before .args .course)))) (c .before .before .before .before .before .before .before .args .n) in
     smoothable _ (c .before .before .before .before .before .before .before .args .n) (length-laid (now (c .before .before .before .before .before .before .before .args .flags)) (now (c .before .before .before .before .before .before .before .args .course)) (c .before .before .before .before .before .before .before .args .n) (c .before .before .before .before .before .before .before .pre .2) g (c .before .before .before .lay-guides .ensures)) (c .before .before .before .before .before .before .before .pre .0)
 
--- src/residues.rt:158:1
 same-length : tie.Need-same-length
 same-length c = search needs
 
--- src/residues.rt:158:1
 returns : tie.Need-returns
 returns c = let g = guidesOf (c .before .before .before .before .before .before .before .before .before .before .args .kind) (take (3 * c .before .before .before .before .before .before .before .before .before .before .args .n) (now (c .before .before .before .before .before .before .before .before .before .before .args .course))) (oxygenAt (now (c .before .before .before .before .before .before .before .before .before .before .args .flags)) (drop (3 * c .before .before .before .before .before .before .before .before .before .before .args .n) (now (c .before .before .before .before .before .before .before .before .before .before .args .course)))) (c .before .before .before .before .before .before .before .before .before .before .args .n) in
     laid-points (now (c .before .before .before .before .before .before .before .before .before .before .args .flags)) (now (c .before .before .before .before .before .before .before .before .before .before .args .course)) (c .before .before .before .before .before .before .before .before .before .before .args .n) (c .before .before .before .before .before .before .before .before .before .before .pre .2) (c .before .before .before .before .before .before .before .before .before .before .args .kind) g (c .before .before .before .before .before .before .lay-guides .ensures) (c .before .before .straighten .ensures)

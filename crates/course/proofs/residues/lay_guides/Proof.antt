@@ -6,44 +6,31 @@ use Rattle.course.proofs.Laws.{laid-guides}
 use borrow.Author.Needs.{needs}
 use Rattle.course.proofs.residues.lay_guides.Statement.{statement}
 use Rattle.course.proofs.residues.lay_guides.Tie as tie
-use Rattle.course.proofs.residues.lay_guides.Reads as reads
-use Rattle.course.proofs.residues.lay_guides.Lts as lts
-use Rattle.course.proofs.residues.settle.Reads as settle-reads
-use Rattle.course.proofs.residues.signed_guides.Reads as signed-guides-reads
 
--- src/residues.rt:152:13
 mul-m : tie.Need-mul-m
 mul-m c = search needs
 
--- src/residues.rt:153:5
 signed-guides-requires : tie.Need-signed-guides-requires
 signed-guides-requires c κs = search needs
 
--- src/residues.rt:154:12
 mul-settle : tie.Need-mul-settle
 mul-settle c = search needs
 
--- src/residues.rt:154:12
 sub-settle : tie.Need-sub-settle
 sub-settle c = search needs
 
--- src/residues.rt:154:12
 part-settle-start : tie.Need-part-settle-start
 part-settle-start c = search needs
 
--- src/residues.rt:154:12
 part-settle-end : tie.Need-part-settle-end
 part-settle-end c = search needs
 
--- src/residues.rt:154:5
 settle-requires : tie.Need-settle-requires
 settle-requires c κs = search needs
 
--- src/residues.rt:148:1
 same-length : tie.Need-same-length
 same-length c = search needs
 
--- src/residues.rt:148:1
 returns : tie.Need-returns
 returns c = laid-guides (now (c .before .before .before .before .before .before .before .before .before .before .args .flags)) (now (c .before .before .before .before .before .before .before .before .before .before .args .course)) (c .before .before .before .before .before .before .before .before .before .before .args .n) (c .before .before .before .before .before .before .before .before .before .before .pre .2) (c .before .before .before .before .before .before .before .before .before .before .args .kind) (c .before .before .before .before .before .before .signed-guides .ensures) (c .before .before .settle .ensures)
 

@@ -6,39 +6,28 @@ use Rattle.course.proofs.Laws.{rest}
 use borrow.Author.Needs.{needs}
 use Rattle.course.proofs.residues.raw_at.Statement.{statement}
 use Rattle.course.proofs.residues.raw_at.Tie as tie
-use Rattle.course.proofs.residues.raw_at.Reads as reads
-use Rattle.course.proofs.residues.raw_at.Lts as lts
-use Rattle.course.proofs.residues.raw_of.Reads as raw-of-reads
 
--- src/residues.rt:61:13
 mul-m : tie.Need-mul-m
 mul-m c = search needs
 
--- src/residues.rt:62:12
 slice-aggregate-raw-of : tie.Need-slice-aggregate-raw-of
 slice-aggregate-raw-of c = sym (length-take-le _ _ (omega arith))
 
--- src/residues.rt:62:33
 mul-raw-of : tie.Need-mul-raw-of
 mul-raw-of c = search needs
 
--- src/residues.rt:62:33
 sub-raw-of : tie.Need-sub-raw-of
 sub-raw-of c = search needs
 
--- src/residues.rt:62:33
 part-raw-of-start : tie.Need-part-raw-of-start
 part-raw-of-start c = search needs
 
--- src/residues.rt:62:33
 part-raw-of-end : tie.Need-part-raw-of-end
 part-raw-of-end c = search needs
 
--- src/residues.rt:62:5
 raw-of-requires : tie.Need-raw-of-requires
 raw-of-requires c κs = (omega arith, simp length-take (omega arith), omega arith, simp (rest, length-drop) (omega arith))
 
--- src/residues.rt:57:1
 returns : tie.Need-returns
 returns c = rw rest at (c .raw-of .ensures)
 

@@ -2,58 +2,42 @@ use Rattle.course.specs.Residues.{settled}
 use borrow.Author.Needs.{needs}
 use Rattle.course.proofs.residues.settle.Statement.{statement}
 use Rattle.course.proofs.residues.settle.Tie as tie
-use Rattle.course.proofs.residues.settle.Reads as reads
-use Rattle.course.proofs.residues.settle.Lts as lts
-use Rattle.course.proofs.residues.average_guides.Reads as average-guides-reads
-use Rattle.course.proofs.smooth.smooth_guides.Reads as smooth-guides-reads
 
--- src/residues.rt:123:27
 enum-told : tie.Need-enum-told
 enum-told c = search needs
 
--- src/residues.rt:123:13
 smooth-guides-requires : tie.Need-smooth-guides-requires
 smooth-guides-requires c κs = search needs
 
--- src/residues.rt:126:27
 enum-told-2 : tie.Need-enum-told-2
 enum-told-2 c = search needs
 
--- src/residues.rt:126:13
 smooth-guides-requires-2 : tie.Need-smooth-guides-requires-2
 smooth-guides-requires-2 c κs = search needs
 
--- src/residues.rt:129:28
 enum-told-3 : tie.Need-enum-told-3
 enum-told-3 c = search needs
 
--- src/residues.rt:129:13
 average-guides-requires : tie.Need-average-guides-requires
 average-guides-requires c κs = search needs
 
--- src/residues.rt:117:1
 same-length : tie.Need-same-length
 same-length c = search needs
 
--- src/residues.rt:117:1
 returns : tie.Need-returns
 unfolding settled
 returns c = rw (c .before .before .before .before .enum-told .given .1) (c .before .before .smooth-guides .ensures)
 
--- src/residues.rt:117:1
 same-length-2 : tie.Need-same-length-2
 same-length-2 c = search needs
 
--- src/residues.rt:117:1
 returns-2 : tie.Need-returns-2
 unfolding settled
 returns-2 c = rw (c .before .before .before .before .enum-told2 .given .1) (c .before .before .smooth-guides2 .ensures)
 
--- src/residues.rt:117:1
 same-length-3 : tie.Need-same-length-3
 same-length-3 c = search needs
 
--- src/residues.rt:117:1
 returns-3 : tie.Need-returns-3
 returns-3 c = rw (c .before .before .before .before .enum-told3 .given .1) (c .before .before .average-guides .ensures)
 

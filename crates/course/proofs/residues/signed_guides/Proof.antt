@@ -12,11 +12,6 @@ use Rattle.course.specs.Residues.{oxygenAt, rawAt, signedAt, signedPiece
 use Rattle.course.proofs.Laws.{raw-still, signed-put, signed-step, signed-whole}
 use Rattle.course.proofs.residues.signed_guides.Statement.{statement}
 use Rattle.course.proofs.residues.signed_guides.Tie as tie
-use Rattle.course.proofs.residues.signed_guides.Reads as reads
-use Rattle.course.proofs.residues.signed_guides.Lts as lts
-use Rattle.course.proofs.residues.raw_at.Reads as raw-at-reads
-use Rattle.shape.proofs.guides.agreeing.Reads as agreeing-reads
-use Rattle.vectors.proofs.put_vec.Reads as put-vec-reads
 
 abbrev Inv-loop : tie.InvT-loop
 Inv-loop flags course₀ n prev₀ i₀ course prev i = (i + 1 ≤ n) × (prev ≡ signedAt (rawAt (take (3 * n) course₀) (oxygenAt flags (drop (3 * n) course₀)) n) i) × (course ≡ put course₀ (3 * n) (upto (signedPiece (rawAt (take (3 * n) course₀) (oxygenAt flags (drop (3 * n) course₀)) n)) i))
@@ -24,81 +19,62 @@ Inv-loop flags course₀ n prev₀ i₀ course prev i = (i + 1 ≤ n) × (prev �
 abbrev μ-loop : tie.MeasureT-loop
 μ-loop flags course₀ n prev₀ i₀ course prev i = n - i
 
--- src/residues.rt:70:9
 raw-at-requires : tie.Need-raw-at-requires Inv-loop μ-loop
 raw-at-requires c κs = search needs
 
--- src/residues.rt:72:5
 loop-holds : tie.Need-loop-holds Inv-loop μ-loop
 unfolding put upto signedAt
 loop-holds c = (omega arith, c .raw-at .ensures, refl)
 
--- src/residues.rt:72:11
 add-loop : tie.Need-add-loop Inv-loop μ-loop
 add-loop c = search needs
 
--- src/residues.rt:73:25
 mul-put-vec : tie.Need-mul-put-vec Inv-loop μ-loop
 mul-put-vec c = search needs
 
--- src/residues.rt:73:33
 mul-put-vec-2 : tie.Need-mul-put-vec-2 Inv-loop μ-loop
 mul-put-vec-2 c = search needs
 
--- src/residues.rt:73:25
 add-put-vec : tie.Need-add-put-vec Inv-loop μ-loop
 add-put-vec c = search needs
 
--- src/residues.rt:73:9
 put-vec-requires : tie.Need-put-vec-requires Inv-loop μ-loop
 put-vec-requires c κs = omega (arith, kept _ _ _ (c .before .before .loop .inv .2))
 
--- src/residues.rt:74:56
 add-raw-at : tie.Need-add-raw-at Inv-loop μ-loop
 add-raw-at c = search needs
 
--- src/residues.rt:74:31
 raw-at-requires-2 : tie.Need-raw-at-requires-2 Inv-loop μ-loop
 raw-at-requires-2 c κs = (omega arith, omega arith, omega (arith, kept _ _ _ (c .before .before .before .put-vec .ensures), kept _ _ _ (c .before .before .before .before .before .before .loop .inv .2)))
 
--- src/residues.rt:74:9
 agreeing-requires : tie.Need-agreeing-requires Inv-loop μ-loop
 agreeing-requires c κs = search needs
 
--- src/residues.rt:75:9
 add-i : tie.Need-add-i Inv-loop μ-loop
 add-i c = search needs
 
--- src/residues.rt:72:5
 loop-less : tie.Need-loop-less Inv-loop μ-loop
 loop-less c = search needs
 
--- src/residues.rt:72:5
 loop-again : tie.Need-loop-again Inv-loop μ-loop
 loop-again c = let p = signed-put _ _ _ (c .before .before .before .before .before .before .before .before .loop .i) (c .before .before .before .before .before .before .before .before .loop .inv .1) (c .before .before .before .before .before .before .before .before .loop .inv .2) (c .before .before .before .before .before .put-vec .ensures) in
     (omega arith, signed-step _ (c .before .before .before .before .before .before .before .before .loop .i) (c .before .before .before .before .before .before .before .before .loop .inv .1) (c .before .raw-at2 .ensures ∙ raw-still _ _ _ _ (c .before .before .before .before .before .before .before .before .loop .i + 1) (c .before .before .before .before .before .before .before .before .loop .i + 1) (λ _. refl) p (omega arith)) (c .agreeing .ensures), p)
 
--- src/residues.rt:77:21
 mul-put-vec-3 : tie.Need-mul-put-vec-3 Inv-loop μ-loop
 mul-put-vec-3 c = search needs
 
--- src/residues.rt:77:29
 mul-put-vec-4 : tie.Need-mul-put-vec-4 Inv-loop μ-loop
 mul-put-vec-4 c = search needs
 
--- src/residues.rt:77:21
 add-put-vec-2 : tie.Need-add-put-vec-2 Inv-loop μ-loop
 add-put-vec-2 c = search needs
 
--- src/residues.rt:77:5
 put-vec-requires-2 : tie.Need-put-vec-requires-2 Inv-loop μ-loop
 put-vec-requires-2 c κs = omega (arith, kept _ _ _ (c .before .before .loop .inv .2))
 
--- src/residues.rt:66:1
 same-length : tie.Need-same-length Inv-loop μ-loop
 same-length c = kept _ _ _ (signed-put _ _ _ (c .before .before .before .before .before .loop .i) (c .before .before .before .before .before .loop .inv .1) (c .before .before .before .before .before .loop .inv .2) (c .before .before .put-vec2 .ensures))
 
--- src/residues.rt:66:1
 returns : tie.Need-returns Inv-loop μ-loop
 returns c = signed-whole _ _ (c .before .before .before .before .before .loop .i + 1) _ (signed-put _ _ _ (c .before .before .before .before .before .loop .i) (c .before .before .before .before .before .loop .inv .1) (c .before .before .before .before .before .loop .inv .2) (c .before .before .put-vec2 .ensures)) (search needs) (omega arith)
 

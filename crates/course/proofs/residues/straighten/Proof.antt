@@ -2,9 +2,6 @@ use Rattle.course.specs.Residues.{pointsOf}
 use borrow.Author.Needs.{needs}
 use Rattle.course.proofs.residues.straighten.Statement.{statement}
 use Rattle.course.proofs.residues.straighten.Tie as tie
-use Rattle.course.proofs.residues.straighten.Reads as reads
-use Rattle.course.proofs.residues.straighten.Lts as lts
-use Rattle.course.proofs.smooth.smooth_positions.Reads as smooth-positions-reads
 
 enum-told : tie.Need-enum-told
 enum-told c = search needs
@@ -12,29 +9,23 @@ enum-told c = search needs
 enum-told-2 : tie.Need-enum-told-2
 enum-told-2 c = search needs
 
--- src/residues.rt:142:30
 enum-told-3 : tie.Need-enum-told-3
 enum-told-3 c = search needs
 
--- src/residues.rt:142:13
 smooth-positions-requires : tie.Need-smooth-positions-requires
 smooth-positions-requires c κs = search needs
 
--- src/residues.rt:134:1
 returns : tie.Need-returns
 unfolding pointsOf
 returns c = rw (c .enum-told .given .1)
 
--- src/residues.rt:134:1
 returns-2 : tie.Need-returns-2
 unfolding pointsOf
 returns-2 c = rw (c .enum-told2 .given .1)
 
--- src/residues.rt:134:1
 same-length : tie.Need-same-length
 same-length c = search needs
 
--- src/residues.rt:134:1
 returns-3 : tie.Need-returns-3
 unfolding pointsOf
 returns-3 c = rw (c .before .before .before .before .enum-told3 .given .1) (c .before .before .smooth-positions .ensures)

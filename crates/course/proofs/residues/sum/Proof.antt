@@ -7,10 +7,6 @@ use Rattle.course.specs.Residues.{sumOf}
 use Rattle.course.proofs.Laws.{sum-step}
 use Rattle.course.proofs.residues.sum.Statement.{statement}
 use Rattle.course.proofs.residues.sum.Tie as tie
-use Rattle.course.proofs.residues.sum.Reads as reads
-use Rattle.course.proofs.residues.sum.Lts as lts
-use Rattle.vectors.proofs.Vec3.add.Reads as add-reads
-use Rattle.vectors.proofs.get_vec.Reads as get-vec-reads
 
 abbrev Inv-loop : tie.InvT-loop
 Inv-loop g n v₀ i₀ v i = (i ≤ n) × (v ≡ sumOf g i)
@@ -18,32 +14,25 @@ Inv-loop g n v₀ i₀ v i = (i ≤ n) × (v ≡ sumOf g i)
 abbrev μ-loop : tie.MeasureT-loop
 μ-loop g n v₀ i₀ v i = n - i
 
--- src/residues.rt:90:5
 loop-holds : tie.Need-loop-holds Inv-loop μ-loop
 unfolding sumOf
 loop-holds c = (omega arith, refl)
 
--- src/residues.rt:91:19
 get-vec-requires : tie.Need-get-vec-requires Inv-loop μ-loop
 get-vec-requires c κs = search needs
 
--- src/residues.rt:91:9
 add-requires : tie.Need-add-requires Inv-loop μ-loop
 add-requires c κs = search needs
 
--- src/residues.rt:92:9
 add-i : tie.Need-add-i Inv-loop μ-loop
 add-i c = search needs
 
--- src/residues.rt:90:5
 loop-less : tie.Need-loop-less Inv-loop μ-loop
 loop-less c = search needs
 
--- src/residues.rt:90:5
 loop-again : tie.Need-loop-again Inv-loop μ-loop
 loop-again c = (omega arith, sum-step _ _ (c .before .before .before .loop .inv .1) (c .before .get-vec .ensures) (c .add .ensures))
 
--- src/residues.rt:80:1
 returns : tie.Need-returns Inv-loop μ-loop
 returns c = let e : c .before .loop .i ≡ c .before .before .before .args .n = omega arith in
     rw e at (c .before .loop .inv .1)

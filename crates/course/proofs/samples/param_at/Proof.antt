@@ -3,27 +3,20 @@ use Rattle.course.specs.Samples.{paramAt}
 use borrow.Author.Needs.{needs}
 use Rattle.course.proofs.samples.param_at.Statement.{statement}
 use Rattle.course.proofs.samples.param_at.Tie as tie
-use Rattle.course.proofs.samples.param_at.Reads as reads
-use Rattle.course.proofs.samples.param_at.Lts as lts
 
--- src/samples.rt:69:8
 add-if1 : tie.Need-add-if1
 add-if1 c = search needs
 
--- src/samples.rt:70:17
 cast-result : tie.Need-cast-result
 cast-result c = search needs
 
--- src/samples.rt:70:16
 int-to-float-result : tie.Need-int-to-float-result
 int-to-float-result c = search needs
 
--- src/samples.rt:70:9
 returns : tie.Need-returns
 unfolding paramAt
 returns c = rw (lt-ltb _ _ (c .before .if1 .taken))
 
--- src/samples.rt:65:1
 returns-2 : tie.Need-returns-2
 unfolding paramAt
 returns-2 c = rw (le-ltb _ _ (c .if1 .left))

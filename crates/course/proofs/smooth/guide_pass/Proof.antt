@@ -10,12 +10,6 @@ use Rattle.course.specs.Smooth.{guidePiece, guidePass}
 use Rattle.course.proofs.Laws.{whole, guide-step}
 use Rattle.course.proofs.smooth.guide_pass.Statement.{statement}
 use Rattle.course.proofs.smooth.guide_pass.Tie as tie
-use Rattle.course.proofs.smooth.guide_pass.Reads as reads
-use Rattle.course.proofs.smooth.guide_pass.Lts as lts
-use Rattle.course.proofs.smooth.after.Reads as after-reads
-use Rattle.shape.proofs.guides.smooth_guide.Reads as smooth-guide-reads
-use Rattle.vectors.proofs.get_vec.Reads as get-vec-reads
-use Rattle.vectors.proofs.put_vec.Reads as put-vec-reads
 
 abbrev Inv-loop : tie.InvT-loop
 Inv-loop list₀ n prev₀ i₀ list prev i = (i ≤ n) × (prev ≡ vecAt list₀ (i - 1)) × (list ≡ put list₀ 0 (upto (guidePiece list₀ n) i))
@@ -23,57 +17,44 @@ Inv-loop list₀ n prev₀ i₀ list prev i = (i ≤ n) × (prev ≡ vecAt list�
 abbrev μ-loop : tie.MeasureT-loop
 μ-loop list₀ n prev₀ i₀ list prev i = n - i
 
--- src/smooth.rt:25:9
 get-vec-requires : tie.Need-get-vec-requires Inv-loop μ-loop
 get-vec-requires c κs = search needs
 
--- src/smooth.rt:27:5
 loop-holds : tie.Need-loop-holds Inv-loop μ-loop
 unfolding put upto
 loop-holds c = (omega arith, c .get-vec .ensures, refl)
 
--- src/smooth.rt:28:13
 get-vec-requires-2 : tie.Need-get-vec-requires-2 Inv-loop μ-loop
 get-vec-requires-2 c κs = omega (arith, kept _ _ _ (c .before .before .loop .inv .2))
 
--- src/smooth.rt:29:34
 after-requires : tie.Need-after-requires Inv-loop μ-loop
 after-requires c κs = search needs
 
--- src/smooth.rt:29:13
 get-vec-requires-3 : tie.Need-get-vec-requires-3 Inv-loop μ-loop
 get-vec-requires-3 c κs = omega (arith, kept _ _ _ (c .before .before .before .before .before .loop .inv .2))
 
--- src/smooth.rt:30:23
 mul-put-vec : tie.Need-mul-put-vec Inv-loop μ-loop
 mul-put-vec c = search needs
 
--- src/smooth.rt:30:30
 smooth-guide-requires : tie.Need-smooth-guide-requires Inv-loop μ-loop
 smooth-guide-requires c κs = search needs
 
--- src/smooth.rt:30:9
 put-vec-requires : tie.Need-put-vec-requires Inv-loop μ-loop
 put-vec-requires c κs = omega (arith, kept _ _ _ (c .before .before .before .before .before .before .before .before .loop .inv .2))
 
--- src/smooth.rt:32:9
 add-i : tie.Need-add-i Inv-loop μ-loop
 add-i c = search needs
 
--- src/smooth.rt:27:5
 loop-less : tie.Need-loop-less Inv-loop μ-loop
 loop-less c = search needs
 
--- src/smooth.rt:27:5
 loop-again : tie.Need-loop-again Inv-loop μ-loop
 loop-again c = let s = guide-step _ _ (c .before .before .before .before .before .before .before .before .before .before .before .loop .i) (c .before .before .before .before .before .before .after .result) (c .before .before .before .before .before .before .before .before .before .before .before .loop .inv .2) (c .before .before .before .before .before .before .before .before .before .before .before .loop .inv .1) (c .before .before .before .before .before .before .before .before .get-vec2 .ensures) (c .before .before .before .before .before .get-vec3 .ensures) (c .before .before .before .before .before .before .after .ensures .0) (c .before .before .before .before .before .before .after .ensures .2) (c .before .before .before .smooth-guide .ensures) (c .before .before .put-vec .ensures) in
     (omega arith, s .0, s .1)
 
--- src/smooth.rt:21:1
 same-length : tie.Need-same-length Inv-loop μ-loop
 same-length c = kept _ _ _ (c .before .loop .inv .2)
 
--- src/smooth.rt:21:1
 returns : tie.Need-returns Inv-loop μ-loop
 unfolding guidePass
 returns c = whole _ _ (c .before .loop .i) _ (λ _. refl) (c .before .loop .inv .2) (search needs) (omega arith)

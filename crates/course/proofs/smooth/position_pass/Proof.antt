@@ -10,11 +10,6 @@ use Rattle.course.specs.Smooth.{positionPiece, positionPass}
 use Rattle.course.proofs.Laws.{point-step}
 use Rattle.course.proofs.smooth.position_pass.Statement.{statement}
 use Rattle.course.proofs.smooth.position_pass.Tie as tie
-use Rattle.course.proofs.smooth.position_pass.Reads as reads
-use Rattle.course.proofs.smooth.position_pass.Lts as lts
-use Rattle.shape.proofs.guides.smooth_position.Reads as smooth-position-reads
-use Rattle.vectors.proofs.get_vec.Reads as get-vec-reads
-use Rattle.vectors.proofs.put_vec.Reads as put-vec-reads
 
 abbrev Inv-loop : tie.InvT-loop
 Inv-loop list₀ n prev₀ i₀ list prev i = (i + 2 ≤ n) × (prev ≡ vecAt list₀ i) × (list ≡ put list₀ 3 (upto (positionPiece list₀) i))
@@ -22,69 +17,53 @@ Inv-loop list₀ n prev₀ i₀ list prev i = (i + 2 ≤ n) × (prev ≡ vecAt l
 abbrev μ-loop : tie.MeasureT-loop
 μ-loop list₀ n prev₀ i₀ list prev i = n - i
 
--- src/smooth.rt:52:9
 get-vec-requires : tie.Need-get-vec-requires Inv-loop μ-loop
 get-vec-requires c κs = search needs
 
--- src/smooth.rt:54:5
 loop-holds : tie.Need-loop-holds Inv-loop μ-loop
 unfolding put upto
 loop-holds c = (omega arith, c .get-vec .ensures, refl)
 
--- src/smooth.rt:54:11
 add-loop : tie.Need-add-loop Inv-loop μ-loop
 add-loop c = search needs
 
--- src/smooth.rt:55:34
 add-get-vec : tie.Need-add-get-vec Inv-loop μ-loop
 add-get-vec c = search needs
 
--- src/smooth.rt:55:13
 get-vec-requires-2 : tie.Need-get-vec-requires-2 Inv-loop μ-loop
 get-vec-requires-2 c κs = omega (arith, kept _ _ _ (c .before .before .loop .inv .2))
 
--- src/smooth.rt:56:34
 add-get-vec-2 : tie.Need-add-get-vec-2 Inv-loop μ-loop
 add-get-vec-2 c = search needs
 
--- src/smooth.rt:56:13
 get-vec-requires-3 : tie.Need-get-vec-requires-3 Inv-loop μ-loop
 get-vec-requires-3 c κs = omega (arith, kept _ _ _ (c .before .before .before .before .loop .inv .2))
 
--- src/smooth.rt:57:23
 mul-put-vec : tie.Need-mul-put-vec Inv-loop μ-loop
 mul-put-vec c = search needs
 
--- src/smooth.rt:57:23
 add-put-vec : tie.Need-add-put-vec Inv-loop μ-loop
 add-put-vec c = search needs
 
--- src/smooth.rt:57:34
 smooth-position-requires : tie.Need-smooth-position-requires Inv-loop μ-loop
 smooth-position-requires c κs = search needs
 
--- src/smooth.rt:57:9
 put-vec-requires : tie.Need-put-vec-requires Inv-loop μ-loop
 put-vec-requires c κs = omega (arith, kept _ _ _ (c .before .before .before .before .before .before .before .loop .inv .2))
 
--- src/smooth.rt:59:9
 add-i : tie.Need-add-i Inv-loop μ-loop
 add-i c = search needs
 
--- src/smooth.rt:54:5
 loop-less : tie.Need-loop-less Inv-loop μ-loop
 loop-less c = search needs
 
--- src/smooth.rt:54:5
 loop-again : tie.Need-loop-again Inv-loop μ-loop
 loop-again c = let s = point-step _ (c .before .before .before .before .before .before .before .before .before .before .loop .i) (c .before .before .before .before .before .before .before .before .before .before .loop .inv .2) (c .before .before .before .before .before .before .before .before .before .before .loop .inv .1) (c .before .before .before .before .before .before .before .get-vec2 .ensures) (c .before .before .before .before .before .get-vec3 .ensures) (c .before .before .before .smooth-position .ensures) (c .before .before .put-vec .ensures) in
     (omega arith, s .0, s .1)
 
--- src/smooth.rt:48:1
 same-length : tie.Need-same-length Inv-loop μ-loop
 same-length c = kept _ _ _ (c .before .loop .inv .2)
 
--- src/smooth.rt:48:1
 returns : tie.Need-returns Inv-loop μ-loop
 unfolding positionPass
 returns c = let e : c .before .loop .i ≡ c .before .before .before .before .before .args .n - 2 = omega arith in

@@ -8,9 +8,6 @@ use Rattle.course.specs.Smooth.{vectors, guidePass, repeated, smoothGuid
 use Rattle.course.proofs.Laws.{again, length-guides}
 use Rattle.course.proofs.smooth.smooth_guides.Statement.{statement}
 use Rattle.course.proofs.smooth.smooth_guides.Tie as tie
-use Rattle.course.proofs.smooth.smooth_guides.Reads as reads
-use Rattle.course.proofs.smooth.smooth_guides.Lts as lts
-use Rattle.course.proofs.smooth.guide_pass.Reads as guide-pass-reads
 
 abbrev Inv-loop : tie.InvT-loop
 Inv-loop list₀ passes n k₀ list k = (k ≤ passes) × (length list ≡ length list₀) × (list ≡ repeated (guidePass n) k list₀)
@@ -18,32 +15,25 @@ Inv-loop list₀ passes n k₀ list k = (k ≤ passes) × (length list ≡ lengt
 abbrev μ-loop : tie.MeasureT-loop
 μ-loop list₀ passes n k₀ list k = passes - k
 
--- src/smooth.rt:42:5
 loop-holds : tie.Need-loop-holds Inv-loop μ-loop
 unfolding repeated
 loop-holds c = (omega arith, refl, refl)
 
--- src/smooth.rt:43:9
 guide-pass-requires : tie.Need-guide-pass-requires Inv-loop μ-loop
 guide-pass-requires c κs = (omega (arith, c .before .before .before .before .pre .two), omega (arith, c .before .before .before .before .pre .whole))
 
--- src/smooth.rt:44:9
 add-k : tie.Need-add-k Inv-loop μ-loop
 add-k c = search needs
 
--- src/smooth.rt:42:5
 loop-less : tie.Need-loop-less Inv-loop μ-loop
 loop-less c = search needs
 
--- src/smooth.rt:42:5
 loop-again : tie.Need-loop-again Inv-loop μ-loop
 loop-again c = (omega arith, ap length (c .before .before .guide-pass .ensures) ∙ length-guides (vectors (now (c .before .before .before .before .before .before .before .args .list))) (c .before .before .before .before .before .loop .list) ∙ sym (c .before .before .before .before .before .before .before .pre .whole), again _ (c .before .before .before .before .before .loop .k) _ (c .before .before .guide-pass .ensures) (c .before .before .before .before .before .loop .inv .2))
 
--- src/smooth.rt:36:1
 same-length : tie.Need-same-length Inv-loop μ-loop
 same-length c = c .before .loop .inv .1
 
--- src/smooth.rt:36:1
 returns : tie.Need-returns Inv-loop μ-loop
 unfolding smoothGuides
 returns c = let e : c .before .loop .k ≡ c .before .before .before .args .passes = omega arith in

@@ -6,53 +6,39 @@ use Rattle.floats.proofs.Narrows.{none, small-at, high-at, over-at, shl
 use borrow.Author.Needs.{needs}
 use Rattle.floats.proofs.narrow.magnitude.Statement.{statement}
 use Rattle.floats.proofs.narrow.magnitude.Tie as tie
-use Rattle.floats.proofs.narrow.magnitude.Reads as reads
-use Rattle.floats.proofs.narrow.magnitude.Lts as lts
-use Rattle.floats.proofs.narrow.nearest_div.Reads as nearest-div-reads
 
--- src/narrow.rt:31:9
 returns : tie.Need-returns
 returns c = (omega arith, λ s. none s (c .before .args .e) (c .before .args .t) (c .before .pre .0) (c .if1 .taken))
 
--- src/narrow.rt:33:13
 add-m : tie.Need-add-m
 add-m c = search needs
 
--- src/narrow.rt:35:40
 sub-nearest-div : tie.Need-sub-nearest-div
 sub-nearest-div c = search needs
 
--- src/narrow.rt:35:31
 shl-nearest-div : tie.Need-shl-nearest-div
 shl-nearest-div c = search needs
 
--- src/narrow.rt:35:9
 nearest-div-requires : tie.Need-nearest-div-requires
 nearest-div-requires c κs =
     let e = c .before .before .args .e in
     (omega arith, shl-pos e (omega arith), shl-even e (omega arith) (omega arith))
 
--- src/narrow.rt:35:9
 returns-2 : tie.Need-returns-2
 returns-2 c = let a = c .before .before .before .args in (small-le (a .e) (a .t) (c .nearest-div .result) (omega arith) (omega arith) (omega arith) (c .nearest-div .ensures), λ s. small-at s (a .e) (a .t) (omega arith) (omega arith) (omega arith) ∙ ap (λ (x : ℕ). cond s (2 ^ 31) 0 + x) (sym (c .nearest-div .ensures)))
 
--- src/narrow.rt:38:16
 mul-result : tie.Need-mul-result
 mul-result c = search needs
 
--- src/narrow.rt:38:38
 nearest-div-requires-2 : tie.Need-nearest-div-requires-2
 nearest-div-requires-2 c κs = search needs
 
--- src/narrow.rt:38:16
 add-result : tie.Need-add-result
 add-result c = omega (arith, high-le (c .before .before .before .before .args .t) (c .nearest-div2 .result) (omega arith) (c .nearest-div2 .ensures))
 
--- src/narrow.rt:38:9
 returns-3 : tie.Need-returns-3
 returns-3 c = let a = c .before .before .before .before .args in (omega (arith, high-le (a .t) (c .nearest-div2 .result) (omega arith) (c .nearest-div2 .ensures)), λ s. high-at s (a .e) (a .t) (omega arith) (omega arith) (omega arith) ∙ ap (λ (x : ℕ). cond s (2 ^ 31) 0 + ((a .e - 897) * 2 ^ 23 + x)) (sym (c .nearest-div2 .ensures)))
 
--- src/narrow.rt:26:1
 returns-4 : tie.Need-returns-4
 returns-4 c = let a = c .before .before .before .args in (omega arith, λ s. over-at s (a .e) (a .t) (omega arith) (omega arith) (omega arith))
 

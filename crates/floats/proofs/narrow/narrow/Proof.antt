@@ -5,23 +5,16 @@ use Rattle.floats.proofs.Written.{no-nan-of, value-of, nan-of, zero-ove
 use borrow.Author.Needs.{needs}
 use Rattle.floats.proofs.narrow.narrow.Statement.{statement}
 use Rattle.floats.proofs.narrow.narrow.Tie as tie
-use Rattle.floats.proofs.narrow.narrow.Reads as reads
-use Rattle.floats.proofs.narrow.narrow.Lts as lts
-use Rattle.floats.proofs.narrow.narrow_bits.Reads as narrow-bits-reads
 
--- src/narrow.rt:61:9
 narrow-bits-requires : tie.Need-narrow-bits-requires
 narrow-bits-requires c κs = search needs
 
--- src/narrow.rt:63:9
 returns : tie.Need-returns
 returns c = zero-over-zero ∙ sym (nan-of binary32 (narrowed binary32 (ofBits binary64 (c .before .before .args .b))) (narrowed-fits binary32 (ofBits binary64 (c .before .before .args .b))) (sym (c .before .narrow-bits .ensures) ∙ c .if1 .taken ∙ sym bits-nan))
 
--- src/narrow.rt:65:5
 float-from-bits-result : tie.Need-float-from-bits-result
 float-from-bits-result c = no-nan-of binary32 (narrowed binary32 (ofBits binary64 (c .before .before .args .b))) (c .before .narrow-bits .result) (narrowed-fits binary32 (ofBits binary64 (c .before .before .args .b))) (c .before .narrow-bits .ensures) (λ e. c .if1 .left (e ∙ bits-nan))
 
--- src/narrow.rt:58:1
 returns-2 : tie.Need-returns-2
 returns-2 c = value-of binary32 (narrowed binary32 (ofBits binary64 (c .before .before .args .b))) (c .before .narrow-bits .result) (narrowed-fits binary32 (ofBits binary64 (c .before .before .args .b))) (c .before .narrow-bits .ensures)
 

@@ -10,35 +10,25 @@ use Rattle.floats.proofs.Narrows.{is-nan, joined}
 use borrow.Author.Needs.{needs}
 use Rattle.floats.proofs.narrow.narrow_bits.Statement.{statement}
 use Rattle.floats.proofs.narrow.narrow_bits.Tie as tie
-use Rattle.floats.proofs.narrow.narrow_bits.Reads as reads
-use Rattle.floats.proofs.narrow.narrow_bits.Lts as lts
-use Rattle.floats.proofs.narrow.magnitude.Reads as magnitude-reads
 
--- src/narrow.rt:48:9
 returns : tie.Need-returns
 returns c = is-nan (c .before .args .b) (c .if1 .taken)
 
--- src/narrow.rt:50:9
 magnitude-requires : tie.Need-magnitude-requires
 magnitude-requires c κs = search needs
 
--- src/narrow.rt:52:16
 cast-result : tie.Need-cast-result
 cast-result c = omega arith
 
--- src/narrow.rt:52:9
 returns-2 : tie.Need-returns-2
 returns-2 c = let b = c .before .before .before .args .b in sym (zero-add (c .before .magnitude .result)) ∙ joined b (c .before .magnitude .result) false (is-false (leb 0x8000_0000_0000_0000 b) (lt→nleb 0x8000_0000_0000_0000 b (c .if2 .taken))) (c .before .magnitude .ensures .1)
 
--- src/narrow.rt:54:6
 add-result : tie.Need-add-result
 add-result c = omega arith
 
--- src/narrow.rt:54:5
 cast-result-2 : tie.Need-cast-result-2
 cast-result-2 c = omega arith
 
--- src/narrow.rt:43:1
 returns-3 : tie.Need-returns-3
 returns-3 c = let b = c .before .before .before .args .b in add-comm (c .before .magnitude .result) 0x8000_0000 ∙ joined b (c .before .magnitude .result) true (is-true (leb 0x8000_0000_0000_0000 b) (le→leb 0x8000_0000_0000_0000 b (c .if2 .left))) (c .before .magnitude .ensures .1)
 

@@ -2,30 +2,22 @@ use Rattle.floats.proofs.RootBits.{same-no-nan}
 use borrow.Author.Needs.{needs}
 use Rattle.floats.proofs.root.clamped.Statement.{statement}
 use Rattle.floats.proofs.root.clamped.Tie as tie
-use Rattle.floats.proofs.root.clamped.Reads as reads
-use Rattle.floats.proofs.root.clamped.Lts as lts
 
--- src/root.rt:18:9
 returns : tie.Need-returns
 returns c = search needs
 
--- src/root.rt:20:13
 float-to-bits-c : tie.Need-float-to-bits-c
 float-to-bits-c c = same-no-nan (c .before .args .s) (c .if1 .left)
 
--- src/root.rt:22:9
 returns-2 : tie.Need-returns-2
 returns-2 c = search needs
 
--- src/root.rt:25:16
 add-result : tie.Need-add-result
 add-result c = search needs
 
--- src/root.rt:25:9
 returns-3 : tie.Need-returns-3
 returns-3 c = search needs
 
--- src/root.rt:14:1
 returns-4 : tie.Need-returns-4
 returns-4 c = search needs
 

@@ -4,60 +4,43 @@ use Rattle.floats.proofs.RootBits.{no-nan-bits}
 use borrow.Author.Needs.{needs}
 use Rattle.floats.proofs.root.guess.Statement.{statement}
 use Rattle.floats.proofs.root.guess.Tie as tie
-use Rattle.floats.proofs.root.guess.Reads as reads
-use Rattle.floats.proofs.root.guess.Lts as lts
-use Rattle.floats.proofs.root.clamped.Reads as clamped-reads
-use Rattle.floats.proofs.root.step.Reads as step-reads
 
--- src/root.rt:35:14
 add-i : tie.Need-add-i
 add-i c = search needs
 
--- src/root.rt:35:13
 mul-i : tie.Need-mul-i
 mul-i c = search needs
 
--- src/root.rt:35:48
 sub-i : tie.Need-sub-i
 sub-i c = search needs
 
--- src/root.rt:35:47
 mul-i-2 : tie.Need-mul-i-2
 mul-i-2 c = search needs
 
--- src/root.rt:35:13
 add-i-2 : tie.Need-add-i-2
 add-i-2 c = search needs
 
--- src/root.rt:36:13
 float-from-bits-v : tie.Need-float-from-bits-v
 float-from-bits-v c = no-nan-bits binary64 _ (omega arith)
 
--- src/root.rt:38:28
 sub-y : tie.Need-sub-y
 sub-y c = search needs
 
--- src/root.rt:38:13
 float-from-bits-y : tie.Need-float-from-bits-y
 float-from-bits-y c = no-nan-bits binary64 _ (omega arith)
 
--- src/root.rt:39:29
 step-requires : tie.Need-step-requires
 step-requires c κs = search needs
 
--- src/root.rt:39:21
 step-requires-2 : tie.Need-step-requires-2
 step-requires-2 c κs = search needs
 
--- src/root.rt:39:9
 step-requires-3 : tie.Need-step-requires-3
 step-requires-3 c κs = search needs
 
--- src/root.rt:40:5
 clamped-requires : tie.Need-clamped-requires
 clamped-requires c κs = search needs
 
--- src/root.rt:31:1
 returns : tie.Need-returns
 returns c = search needs
 

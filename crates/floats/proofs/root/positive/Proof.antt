@@ -7,44 +7,31 @@ use Rattle.floats.proofs.RootBits.{scaled-is, scaled-lt, scaled-ge, pos
 use borrow.Author.Needs.{needs}
 use Rattle.floats.proofs.root.positive.Statement.{statement}
 use Rattle.floats.proofs.root.positive.Tie as tie
-use Rattle.floats.proofs.root.positive.Reads as reads
-use Rattle.floats.proofs.root.positive.Lts as lts
-use Rattle.floats.proofs.root.guess.Reads as guess-reads
-use Rattle.floats.proofs.root.nearest_root.Reads as nearest-root-reads
 
--- src/root.rt:64:32
 add-nearest-root : tie.Need-add-nearest-root
 add-nearest-root c = search needs
 
--- src/root.rt:64:26
 shl-nearest-root : tie.Need-shl-nearest-root
 shl-nearest-root c = search needs
 
--- src/root.rt:64:43
 guess-requires : tie.Need-guess-requires
 guess-requires c κs = search needs
 
--- src/root.rt:64:9
 nearest-root-requires : tie.Need-nearest-root-requires
 nearest-root-requires c κs = let a = c .before .args in let e = scaled-is (a .m) (a .g) (omega arith) (omega arith) in let l = scaled-lt (a .m) (a .g) (omega arith) (omega arith) in let h = scaled-ge (a .m) (a .g) (omega arith) (omega arith) in omega arith
 
--- src/root.rt:65:7
 sub-result : tie.Need-sub-result
 sub-result c = search needs
 
--- src/root.rt:65:6
 mul-result : tie.Need-mul-result
 mul-result c = search needs
 
--- src/root.rt:65:6
 add-result : tie.Need-add-result
 add-result c = search needs
 
--- src/root.rt:65:5
 cast-result : tie.Need-cast-result
 cast-result c = search needs
 
--- src/root.rt:59:1
 returns : tie.Need-returns
 returns c = let a = c .before .before .args in let n = c .nearest-root .ensures in positive-is (a .m) (a .g) (omega arith) (omega arith) (c .nearest-root .result) (omega arith) (omega arith) (subst (λ (x : ℕ). Near x (c .nearest-root .result)) (scaled-is (a .m) (a .g) (omega arith) (omega arith)) (n .0, n .1)) (n .2)
 

@@ -6,39 +6,28 @@ use Rattle.floats.specs.Floats.{root}
 use Rattle.floats.proofs.RootBits.{at-zero, lift-ge, lift-le, lifted-ge, lifted-lt, small-is}
 use Rattle.floats.proofs.root.small.Statement.{statement}
 use Rattle.floats.proofs.root.small.Tie as tie
-use Rattle.floats.proofs.root.small.Reads as reads
-use Rattle.floats.proofs.root.small.Lts as lts
-use Rattle.floats.proofs.root.positive.Reads as positive-reads
 
--- src/root.rt:74:9
 returns : tie.Need-returns
 returns c = at-zero ∙ ap (λ (x : ℕ). toBits binary32 (root binary32 (ofBits binary32 x))) (sym (c .if1 .taken))
 
--- src/root.rt:76:13
 sub-s : tie.Need-sub-s
 sub-s c = lift-ge (c .before .args .b) (omega arith) (c .before .pre)
 
--- src/root.rt:77:28
 cast-positive : tie.Need-cast-positive
 cast-positive c = omega (arith, lift-le (c .before .args .b) (omega arith) (c .before .pre))
 
--- src/root.rt:77:14
 shl-positive : tie.Need-shl-positive
 shl-positive c = omega (arith, lift-le (c .before .args .b) (omega arith) (c .before .pre))
 
--- src/root.rt:77:37
 cast-positive-2 : tie.Need-cast-positive-2
 cast-positive-2 c = omega (arith, lift-le (c .before .args .b) (omega arith) (c .before .pre))
 
--- src/root.rt:77:31
 sub-positive : tie.Need-sub-positive
 sub-positive c = omega (arith, lift-le (c .before .args .b) (omega arith) (c .before .pre))
 
--- src/root.rt:77:5
 positive-requires : tie.Need-positive-requires
 positive-requires c κs = let b = c .before .args .b in let x = lift-le b (omega arith) (c .before .pre) in let y = lifted-ge b (omega arith) (c .before .pre) in let z = lifted-lt b (omega arith) (c .before .pre) in omega arith
 
--- src/root.rt:69:1
 returns-2 : tie.Need-returns-2
 returns-2 c = small-is (c .before .before .args .b) (omega arith) (c .before .before .pre) (c .positive .result) (c .positive .ensures)
 

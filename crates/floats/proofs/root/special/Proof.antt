@@ -6,18 +6,13 @@ use Rattle.floats.specs.Floats.{root}
 use Rattle.floats.proofs.RootBits.{at-inf, at-minus-zero, no-root}
 use Rattle.floats.proofs.root.special.Statement.{statement}
 use Rattle.floats.proofs.root.special.Tie as tie
-use Rattle.floats.proofs.root.special.Reads as reads
-use Rattle.floats.proofs.root.special.Lts as lts
 
--- src/root.rt:86:9
 returns : tie.Need-returns
 returns c = c .if1 .taken ∙ at-inf ∙ ap (λ (x : ℕ). toBits binary32 (root binary32 (ofBits binary32 x))) (sym (c .if1 .taken))
 
--- src/root.rt:89:9
 returns-2 : tie.Need-returns-2
 returns-2 c = c .if2 .taken ∙ at-minus-zero ∙ ap (λ (x : ℕ). toBits binary32 (root binary32 (ofBits binary32 x))) (sym (c .if2 .taken))
 
--- src/root.rt:81:1
 returns-3 : tie.Need-returns-3
 returns-3 c = no-root (c .before .before .args .b) (omega arith) (omega arith) (c .if2 .left)
 

@@ -8,9 +8,6 @@ use Rattle.floats.proofs.Written.{no-nan-of, value-of, nan-of, zero-ove
 use borrow.Author.Needs.{needs}
 use Rattle.floats.proofs.root.square_root.Statement.{statement}
 use Rattle.floats.proofs.root.square_root.Tie as tie
-use Rattle.floats.proofs.root.square_root.Reads as reads
-use Rattle.floats.proofs.root.square_root.Lts as lts
-use Rattle.floats.proofs.root.root_bits.Reads as root-bits-reads
 
 held : (c : tie.Start) → T (fits binary32 (c .args .x))
 held c = subst T (sym (c .good .0 .1)) tt
@@ -18,27 +15,21 @@ held c = subst T (sym (c .good .0 .1)) tt
 back : (x : Float) → T (fits binary32 x) → toBits binary32 (root binary32 (ofBits binary32 (toBits binary32 x))) ≡ toBits binary32 (root binary32 x)
 back x t = ap (λ (y : Float). toBits binary32 (root binary32 y)) (ofBits-toBits binary32 x t)
 
--- src/root.rt:112:9
 returns : tie.Need-returns
 returns c = zero-over-zero ∙ sym (ap (root binary32) (differs (c .before .args .x) (c .if1 .taken)) ∙ root-nan binary32)
 
--- src/root.rt:114:23
 float-to-bits-root-bits : tie.Need-float-to-bits-root-bits
 float-to-bits-root-bits c = same-no-nan (c .before .args .x) (c .if1 .left)
 
--- src/root.rt:114:9
 root-bits-requires : tie.Need-root-bits-requires
 root-bits-requires c κs = search needs
 
--- src/root.rt:116:9
 returns-2 : tie.Need-returns-2
 returns-2 c = zero-over-zero ∙ sym (nan-of binary32 (root binary32 (c .before .before .before .args .x)) (root-fits binary32 (c .before .before .before .args .x) (held (c .before .before .before))) (sym (c .before .root-bits .ensures ∙ back (c .before .before .before .args .x) (held (c .before .before .before))) ∙ c .if2 .taken ∙ sym bits-nan))
 
--- src/root.rt:118:5
 float-from-bits-result : tie.Need-float-from-bits-result
 float-from-bits-result c = no-nan-of binary32 (root binary32 (c .before .before .before .args .x)) (c .before .root-bits .result) (root-fits binary32 (c .before .before .before .args .x) (held (c .before .before .before))) (c .before .root-bits .ensures ∙ back (c .before .before .before .args .x) (held (c .before .before .before))) (λ e. c .if2 .left (e ∙ bits-nan))
 
--- src/root.rt:108:1
 returns-3 : tie.Need-returns-3
 returns-3 c = value-of binary32 (root binary32 (c .before .before .before .args .x)) (c .before .root-bits .result) (root-fits binary32 (c .before .before .before .args .x) (held (c .before .before .before))) (c .before .root-bits .ensures ∙ back (c .before .before .before .args .x) (held (c .before .before .before)))
 

@@ -2,25 +2,17 @@ use Rattle.shape.specs.Guide.{agreeing}
 use borrow.Author.Needs.{needs}
 use Rattle.shape.proofs.guides.agreeing.Statement.{statement}
 use Rattle.shape.proofs.guides.agreeing.Tie as tie
-use Rattle.shape.proofs.guides.agreeing.Reads as reads
-use Rattle.shape.proofs.guides.agreeing.Lts as lts
-use Rattle.vectors.proofs.Vec3.dot.Reads as dot-reads
-use Rattle.vectors.proofs.Vec3.scale.Reads as scale-reads
 
--- src/guides.rt:102:8
 dot-requires : tie.Need-dot-requires
 dot-requires c κs = search needs
 
--- src/guides.rt:103:9
 scale-requires : tie.Need-scale-requires
 scale-requires c κs = search needs
 
--- src/guides.rt:103:9
 returns : tie.Need-returns
 unfolding agreeing
 returns c = rw (← c .before .before .dot .ensures, c .before .if1 .taken) (c .scale .ensures)
 
--- src/guides.rt:99:1
 returns-2 : tie.Need-returns-2
 unfolding agreeing
 returns-2 c = rw (← c .before .dot .ensures, c .if1 .left)

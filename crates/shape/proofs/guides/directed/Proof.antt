@@ -2,25 +2,17 @@ use Rattle.shape.specs.Guide.{directed}
 use borrow.Author.Needs.{needs}
 use Rattle.shape.proofs.guides.directed.Statement.{statement}
 use Rattle.shape.proofs.guides.directed.Tie as tie
-use Rattle.shape.proofs.guides.directed.Reads as reads
-use Rattle.shape.proofs.guides.directed.Lts as lts
-use Rattle.vectors.proofs.Vec3.length.Reads as length-reads
-use Rattle.vectors.proofs.Vec3.normalised.Reads as normalised-reads
 
--- src/guides.rt:89:8
 length-requires : tie.Need-length-requires
 length-requires c κs = search needs
 
--- src/guides.rt:90:9
 returns : tie.Need-returns
 unfolding directed
 returns c = rw (← c .before .length .ensures, c .if1 .taken)
 
--- src/guides.rt:96:5
 normalised-requires : tie.Need-normalised-requires
 normalised-requires c κs = search needs
 
--- src/guides.rt:86:1
 returns-2 : tie.Need-returns-2
 unfolding directed
 returns-2 c = rw (← c .before .before .length .ensures, c .before .if1 .left) (c .normalised .ensures)

@@ -1,19 +1,13 @@
 use borrow.Author.Needs.{needs}
 use Rattle.shape.proofs.guides.helper.Statement.{statement}
 use Rattle.shape.proofs.guides.helper.Tie as tie
-use Rattle.shape.proofs.guides.helper.Reads as reads
-use Rattle.shape.proofs.guides.helper.Lts as lts
-use Rattle.floats.proofs.magnitude_of.Reads as magnitude-of-reads
 
--- src/guides.rt:11:8
 magnitude-of-requires : tie.Need-magnitude-of-requires
 magnitude-of-requires c κs = search needs
 
--- src/guides.rt:12:9
 returns : tie.Need-returns
 returns c = rw (← c .before .magnitude-of .ensures, c .if1 .taken)
 
--- src/guides.rt:8:1
 returns-2 : tie.Need-returns-2
 returns-2 c = rw (← c .before .magnitude-of .ensures, c .if1 .left)
 

@@ -7,23 +7,17 @@ use Rattle.shape.proofs.Table.{at, number}
 use borrow.Author.Needs.{needs}
 use Rattle.shape.proofs.section.cosine.Statement.{statement}
 use Rattle.shape.proofs.section.cosine.Tie as tie
-use Rattle.shape.proofs.section.cosine.Reads as reads
-use Rattle.shape.proofs.section.cosine.Lts as lts
 
--- src/section.rt:39:20
 mul-result : tie.Need-mul-result
 mul-result c = search needs
 
--- src/section.rt:39:20
 array-read-result : tie.Need-array-read-result
 array-read-result c = search needs
 
--- src/section.rt:39:5
 float-from-bits-result : tie.Need-float-from-bits-result
 unfolding number cosBits nanBits
 float-from-bits-result c = at number cosBits tt (c .args .k) (search needs)
 
--- src/section.rt:35:1
 returns : tie.Need-returns
 unfolding cosAt cosBits
 returns c = refl

@@ -2,32 +2,24 @@ use Rattle.shape.specs.Ring.{halfSizes}
 use borrow.Author.Needs.{needs}
 use Rattle.shape.proofs.section.half_sizes.Statement.{statement}
 use Rattle.shape.proofs.section.half_sizes.Tie as tie
-use Rattle.shape.proofs.section.half_sizes.Reads as reads
-use Rattle.shape.proofs.section.half_sizes.Lts as lts
 
--- src/section.rt:54:23
 enum-told : tie.Need-enum-told
 enum-told c = search needs
 
--- src/section.rt:58:24
 enum-told-2 : tie.Need-enum-told-2
 enum-told-2 c = search needs
 
--- src/section.rt:62:24
 enum-told-3 : tie.Need-enum-told-3
 enum-told-3 c = search needs
 
--- src/section.rt:50:1
 returns : tie.Need-returns
 unfolding halfSizes
 returns c = rw (c .enum-told .given .1)
 
--- src/section.rt:50:1
 returns-2 : tie.Need-returns-2
 unfolding halfSizes
 returns-2 c = rw (c .enum-told2 .given .1)
 
--- src/section.rt:50:1
 returns-3 : tie.Need-returns-3
 unfolding halfSizes
 returns-3 c = rw (c .enum-told3 .given .1)

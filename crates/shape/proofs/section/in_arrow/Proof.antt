@@ -2,36 +2,27 @@ use Rattle.shape.specs.Ring.{inArrow}
 use borrow.Author.Needs.{needs}
 use Rattle.shape.proofs.section.in_arrow.Statement.{statement}
 use Rattle.shape.proofs.section.in_arrow.Tie as tie
-use Rattle.shape.proofs.section.in_arrow.Reads as reads
-use Rattle.shape.proofs.section.in_arrow.Lts as lts
 
--- src/section.rt:74:23
 enum-told : tie.Need-enum-told
 enum-told c = search needs
 
--- src/section.rt:75:24
 enum-told-2 : tie.Need-enum-told-2
 enum-told-2 c = search needs
 
--- src/section.rt:76:24
 enum-told-3 : tie.Need-enum-told-3
 enum-told-3 c = search needs
 
--- src/section.rt:76:24
 add-result : tie.Need-add-result
 add-result c = search needs
 
--- src/section.rt:69:1
 returns : tie.Need-returns
 unfolding inArrow
 returns c = rw (c .enum-told .given .1)
 
--- src/section.rt:69:1
 returns-2 : tie.Need-returns-2
 unfolding inArrow
 returns-2 c = rw (c .enum-told2 .given .1)
 
--- src/section.rt:69:1
 returns-3 : tie.Need-returns-3
 unfolding inArrow
 returns-3 c = rw (c .enum-told3 .given .1)

@@ -2,28 +2,19 @@ use Rattle.shape.specs.Ring.{pointOn}
 use borrow.Author.Needs.{needs}
 use Rattle.shape.proofs.section.point_on.Statement.{statement}
 use Rattle.shape.proofs.section.point_on.Tie as tie
-use Rattle.shape.proofs.section.point_on.Reads as reads
-use Rattle.shape.proofs.section.point_on.Lts as lts
-use Rattle.vectors.proofs.Vec3.add.Reads as add-reads
-use Rattle.vectors.proofs.Vec3.scale.Reads as scale-reads
 
--- src/section.rt:151:16
 scale-requires : tie.Need-scale-requires
 scale-requires c κs = search needs
 
--- src/section.rt:151:5
 add-requires : tie.Need-add-requires
 add-requires c κs = search needs
 
--- src/section.rt:151:45
 scale-requires-2 : tie.Need-scale-requires-2
 scale-requires-2 c κs = search needs
 
--- src/section.rt:151:5
 add-requires-2 : tie.Need-add-requires-2
 add-requires-2 c κs = search needs
 
--- src/section.rt:148:1
 returns : tie.Need-returns
 unfolding pointOn
 returns c = cc

@@ -9,10 +9,6 @@ use Rattle.buffers.proofs.Puts.{set-turn}
 use Rattle.shape.specs.Ring.{pointOn, normalOn, spokePast, ringOver}
 use Rattle.shape.proofs.section.ring_over.Statement.{statement}
 use Rattle.shape.proofs.section.ring_over.Tie as tie
-use Rattle.shape.proofs.section.ring_over.Reads as reads
-use Rattle.shape.proofs.section.ring_over.Lts as lts
-use Rattle.shape.proofs.section.normal_on.Reads as normal-on-reads
-use Rattle.shape.proofs.section.point_on.Reads as point-on-reads
 
 abbrev Inv-loop : tie.InvT-loop
 Inv-loop center guide binormal spokes positions₀ normals₀ k₀ positions normals k = (k ≤ 8) × (positions ≡ put positions₀ 0 (upto (λ (j : ℕ). pointOn center guide binormal (getD spokes j spokePast) ∷ []) k)) × (normals ≡ put normals₀ 0 (upto (λ (j : ℕ). normalOn guide binormal (getD spokes j spokePast) ∷ []) k))
@@ -20,58 +16,45 @@ Inv-loop center guide binormal spokes positions₀ normals₀ k₀ positions nor
 abbrev μ-loop : tie.MeasureT-loop
 μ-loop center guide binormal spokes positions₀ normals₀ k₀ positions normals k = 8 - k
 
--- src/section.rt:172:5
 loop-holds : tie.Need-loop-holds Inv-loop μ-loop
 unfolding put upto
 loop-holds c = (omega arith, refl, refl)
 
--- src/section.rt:173:17
 mul-s : tie.Need-mul-s Inv-loop μ-loop
 mul-s c = search needs
 
--- src/section.rt:173:17
 array-copy-out-s : tie.Need-array-copy-out-s Inv-loop μ-loop
 array-copy-out-s c = search needs
 
--- src/section.rt:174:24
 point-on-requires : tie.Need-point-on-requires Inv-loop μ-loop
 point-on-requires c κs = search needs
 
--- src/section.rt:174:9
 mul-positions : tie.Need-mul-positions Inv-loop μ-loop
 mul-positions c = search needs
 
--- src/section.rt:174:9
 array-set-from-positions : tie.Need-array-set-from-positions Inv-loop μ-loop
 array-set-from-positions c = search needs
 
--- src/section.rt:175:22
 normal-on-requires : tie.Need-normal-on-requires Inv-loop μ-loop
 normal-on-requires c κs = search needs
 
--- src/section.rt:175:9
 mul-normals : tie.Need-mul-normals Inv-loop μ-loop
 mul-normals c = search needs
 
--- src/section.rt:175:9
 array-set-from-normals : tie.Need-array-set-from-normals Inv-loop μ-loop
 array-set-from-normals c = search needs
 
--- src/section.rt:176:9
 add-k : tie.Need-add-k Inv-loop μ-loop
 add-k c = search needs
 
--- src/section.rt:172:5
 loop-less : tie.Need-loop-less Inv-loop μ-loop
 loop-less c = search needs
 
--- src/section.rt:172:5
 loop-again : tie.Need-loop-again Inv-loop μ-loop
 loop-again c = let i = c .before .before .before .before .loop .inv in
     let k = c .before .before .before .before .loop .k in
     (omega arith, set-turn _ _ 0 k k (i .1) (c .before .point-on .ensures) (omega arith), set-turn _ _ 0 k k (i .2) (c .normal-on .ensures) (omega arith))
 
--- src/section.rt:161:1
 returns : tie.Need-returns Inv-loop μ-loop
 unfolding ringOver put upto
 returns c = let e : c .before .loop .k ≡ 8 = omega arith in

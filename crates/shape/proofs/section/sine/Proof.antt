@@ -7,23 +7,17 @@ use Rattle.shape.proofs.Table.{at, number}
 use borrow.Author.Needs.{needs}
 use Rattle.shape.proofs.section.sine.Statement.{statement}
 use Rattle.shape.proofs.section.sine.Tie as tie
-use Rattle.shape.proofs.section.sine.Reads as reads
-use Rattle.shape.proofs.section.sine.Lts as lts
 
--- src/section.rt:46:20
 mul-result : tie.Need-mul-result
 mul-result c = search needs
 
--- src/section.rt:46:20
 array-read-result : tie.Need-array-read-result
 array-read-result c = search needs
 
--- src/section.rt:46:5
 float-from-bits-result : tie.Need-float-from-bits-result
 unfolding number sinBits nanBits
 float-from-bits-result c = at number sinBits tt (c .args .k) (search needs)
 
--- src/section.rt:42:1
 returns : tie.Need-returns
 unfolding sinAt sinBits
 returns c = refl

@@ -8,9 +8,6 @@ use Rattle.buffers.proofs.Puts.{set-turn}
 use Rattle.shape.specs.Ring.{spokeAt, spokesOf}
 use Rattle.shape.proofs.section.spokes.Statement.{statement}
 use Rattle.shape.proofs.section.spokes.Tie as tie
-use Rattle.shape.proofs.section.spokes.Reads as reads
-use Rattle.shape.proofs.section.spokes.Lts as lts
-use Rattle.shape.proofs.section.spoke.Reads as spoke-reads
 
 abbrev Inv-loop : tie.InvT-loop
 Inv-loop p out₀ k₀ out k = (k ≤ 8) × (out ≡ put out₀ 0 (upto (λ (j : ℕ). spokeAt p j ∷ []) k))
@@ -18,41 +15,32 @@ Inv-loop p out₀ k₀ out k = (k ≤ 8) × (out ≡ put out₀ 0 (upto (λ (j :
 abbrev μ-loop : tie.MeasureT-loop
 μ-loop p out₀ k₀ out k = 8 - k
 
--- src/section.rt:139:20
 spoke-requires : tie.Need-spoke-requires Inv-loop μ-loop
 spoke-requires c κs = search needs
 
--- src/section.rt:141:5
 loop-holds : tie.Need-loop-holds Inv-loop μ-loop
 unfolding put upto
 loop-holds c = (omega arith, refl)
 
--- src/section.rt:142:18
 spoke-requires-2 : tie.Need-spoke-requires-2 Inv-loop μ-loop
 spoke-requires-2 c κs = search needs
 
--- src/section.rt:142:9
 mul-out : tie.Need-mul-out Inv-loop μ-loop
 mul-out c = search needs
 
--- src/section.rt:142:9
 array-set-from-out : tie.Need-array-set-from-out Inv-loop μ-loop
 array-set-from-out c = search needs
 
--- src/section.rt:143:9
 add-k : tie.Need-add-k Inv-loop μ-loop
 add-k c = search needs
 
--- src/section.rt:141:5
 loop-less : tie.Need-loop-less Inv-loop μ-loop
 loop-less c = search needs
 
--- src/section.rt:141:5
 loop-again : tie.Need-loop-again Inv-loop μ-loop
 loop-again c = let k = c .before .before .loop .k in
     (omega arith, set-turn _ _ 0 k k (c .before .before .loop .inv .1) (c .spoke2 .ensures) (omega arith))
 
--- src/section.rt:136:1
 returns : tie.Need-returns Inv-loop μ-loop
 unfolding spokesOf put upto
 returns c = let e : c .before .loop .k ≡ 8 = omega arith in

@@ -2,23 +2,16 @@ use Rattle.skin.specs.Box.{onEach}
 use borrow.Author.Needs.{needs}
 use Rattle.skin.proofs.boxes.least.Statement.{statement}
 use Rattle.skin.proofs.boxes.least.Tie as tie
-use Rattle.skin.proofs.boxes.least.Reads as reads
-use Rattle.skin.proofs.boxes.least.Lts as lts
-use Rattle.skin.proofs.boxes.lower.Reads as lower-reads
 
--- src/boxes.rt:34:12
 lower-requires : tie.Need-lower-requires
 lower-requires c κs = search needs
 
--- src/boxes.rt:35:12
 lower-requires-2 : tie.Need-lower-requires-2
 lower-requires-2 c κs = search needs
 
--- src/boxes.rt:36:12
 lower-requires-3 : tie.Need-lower-requires-3
 lower-requires-3 c κs = search needs
 
--- src/boxes.rt:30:1
 returns : tie.Need-returns
 unfolding onEach
 returns c = cc

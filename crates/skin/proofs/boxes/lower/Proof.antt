@@ -1,14 +1,10 @@
 use borrow.Author.Needs.{needs}
 use Rattle.skin.proofs.boxes.lower.Statement.{statement}
 use Rattle.skin.proofs.boxes.lower.Tie as tie
-use Rattle.skin.proofs.boxes.lower.Reads as reads
-use Rattle.skin.proofs.boxes.lower.Lts as lts
 
--- src/boxes.rt:16:9
 returns : tie.Need-returns
 returns c = rw (c .if1 .taken)
 
--- src/boxes.rt:12:1
 returns-2 : tie.Need-returns-2
 returns-2 c = rw (c .if1 .left)
 

@@ -8,12 +8,6 @@ use Rattle.skin.specs.Box.{lower, upper, over, boxOf}
 use Rattle.skin.proofs.Laws.{over-more}
 use Rattle.skin.proofs.boxes.put_box.Statement.{statement}
 use Rattle.skin.proofs.boxes.put_box.Tie as tie
-use Rattle.skin.proofs.boxes.put_box.Reads as reads
-use Rattle.skin.proofs.boxes.put_box.Lts as lts
-use Rattle.skin.proofs.boxes.greatest.Reads as greatest-reads
-use Rattle.skin.proofs.boxes.least.Reads as least-reads
-use Rattle.vectors.proofs.get_vec.Reads as get-vec-reads
-use Rattle.vectors.proofs.put_vec.Reads as put-vec-reads
 
 abbrev Inv-loop : tie.InvT-loop
 Inv-loop ca n boxes at low₀ high₀ i₀ low high i = (i + 1 ≤ n) × (low ≡ over lower ca i) × (high ≡ over upper ca i)
@@ -21,64 +15,49 @@ Inv-loop ca n boxes at low₀ high₀ i₀ low high i = (i + 1 ≤ n) × (low �
 abbrev μ-loop : tie.MeasureT-loop
 μ-loop ca n boxes at low₀ high₀ i₀ low high i = n - i
 
--- src/boxes.rt:55:9
 get-vec-requires : tie.Need-get-vec-requires Inv-loop μ-loop
 get-vec-requires c κs = search needs
 
--- src/boxes.rt:58:5
 loop-holds : tie.Need-loop-holds Inv-loop μ-loop
 unfolding over
 loop-holds c = (omega arith, c .get-vec .ensures, c .get-vec .ensures)
 
--- src/boxes.rt:58:11
 add-loop : tie.Need-add-loop Inv-loop μ-loop
 add-loop c = search needs
 
--- src/boxes.rt:59:29
 add-get-vec : tie.Need-add-get-vec Inv-loop μ-loop
 add-get-vec c = search needs
 
--- src/boxes.rt:59:13
 get-vec-requires-2 : tie.Need-get-vec-requires-2 Inv-loop μ-loop
 get-vec-requires-2 c κs = search needs
 
--- src/boxes.rt:60:9
 least-requires : tie.Need-least-requires Inv-loop μ-loop
 least-requires c κs = search needs
 
--- src/boxes.rt:61:9
 greatest-requires : tie.Need-greatest-requires Inv-loop μ-loop
 greatest-requires c κs = search needs
 
--- src/boxes.rt:62:9
 add-i : tie.Need-add-i Inv-loop μ-loop
 add-i c = search needs
 
--- src/boxes.rt:58:5
 loop-less : tie.Need-loop-less Inv-loop μ-loop
 loop-less c = search needs
 
--- src/boxes.rt:58:5
 loop-again : tie.Need-loop-again Inv-loop μ-loop
 loop-again c = (omega arith, over-more _ _ (c .before .before .before .before .loop .i) (c .before .before .before .before .loop .inv .1) (c .before .before .get-vec2 .ensures) (c .before .least .ensures), over-more _ _ (c .before .before .before .before .loop .i) (c .before .before .before .before .loop .inv .2) (c .before .before .get-vec2 .ensures) (c .greatest .ensures))
 
--- src/boxes.rt:64:5
 put-vec-requires : tie.Need-put-vec-requires Inv-loop μ-loop
 put-vec-requires c κs = search needs
 
--- src/boxes.rt:65:20
 add-put-vec : tie.Need-add-put-vec Inv-loop μ-loop
 add-put-vec c = search needs
 
--- src/boxes.rt:65:5
 put-vec-requires-2 : tie.Need-put-vec-requires-2 Inv-loop μ-loop
 put-vec-requires-2 c κs = omega (arith, kept _ _ _ (c .before .before .before .put-vec .ensures))
 
--- src/boxes.rt:51:1
 same-length : tie.Need-same-length Inv-loop μ-loop
 same-length c = search needs
 
--- src/boxes.rt:51:1
 returns : tie.Need-returns Inv-loop μ-loop
 unfolding boxOf
 returns c = let e : c .before .before .before .before .before .before .before .before .before .before .before .before .before .args .n - 1 ≡ c .before .before .before .before .before .before .before .before .before .loop .i = omega arith in

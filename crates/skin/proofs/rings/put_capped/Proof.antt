@@ -5,36 +5,25 @@ use Rattle.skin.proofs.Laws.{wrote-next, less, room, length-eight}
 use borrow.Author.Needs.{needs}
 use Rattle.skin.proofs.rings.put_capped.Statement.{statement}
 use Rattle.skin.proofs.rings.put_capped.Tie as tie
-use Rattle.skin.proofs.rings.put_capped.Reads as reads
-use Rattle.skin.proofs.rings.put_capped.Lts as lts
-use Rattle.skin.proofs.rings.put_ring.Reads as put-ring-reads
-use Rattle.skin.proofs.rings.put_vertex.Reads as put-vertex-reads
 
--- src/rings.rt:87:18
 add-centre : tie.Need-add-centre
 add-centre c = search needs
 
--- src/rings.rt:88:5
 put-ring-requires : tie.Need-put-ring-requires
 put-ring-requires c κs = less _ _ (c .before .before .before .before .before .before .pre) (omega arith)
 
--- src/rings.rt:89:5
 put-vertex-requires : tie.Need-put-vertex-requires
 put-vertex-requires c κs = room _ _ _ _ _ (c .before .before .before .before .before .before .before .before .before .put-ring .ensures) (c .before .before .before .before .before .before .before .before .before .before .before .before .before .before .before .before .pre) (c .before .before .before .before .before .before .before .before .before .before .before .before .before .before .before .before .args .v + 8 + 1) (omega arith)
 
--- src/rings.rt:73:1
 same-length : tie.Need-same-length
 same-length c = search needs
 
--- src/rings.rt:73:1
 same-length-2 : tie.Need-same-length-2
 same-length-2 c = search needs
 
--- src/rings.rt:73:1
 same-length-3 : tie.Need-same-length-3
 same-length-3 c = search needs
 
--- src/rings.rt:73:1
 returns : tie.Need-returns
 returns c = wrote-next _ _ _ _ _ _ _ _ (c .before .before .before .before .before .before .put-vertex .ensures) (c .before .before .before .before .before .before .before .before .before .before .before .before .before .before .before .before .put-ring .ensures) refl (length-eight _) (length-eight _)
 

@@ -9,9 +9,6 @@ use Rattle.buffers.proofs.Puts.{turn, kept}
 use Rattle.skin.specs.Tube.{eight}
 use Rattle.skin.proofs.rings.put_eight.Statement.{statement}
 use Rattle.skin.proofs.rings.put_eight.Tie as tie
-use Rattle.skin.proofs.rings.put_eight.Reads as reads
-use Rattle.skin.proofs.rings.put_eight.Lts as lts
-use Rattle.vectors.proofs.put_vec.Reads as put-vec-reads
 
 abbrev Inv-loop : tie.InvT-loop
 Inv-loop out₀ at ps k₀ out k = (k ≤ 8) × (out ≡ put out₀ at (upto (λ (j : ℕ). floats (getD ps j vpast)) k))
@@ -19,48 +16,37 @@ Inv-loop out₀ at ps k₀ out k = (k ≤ 8) × (out ≡ put out₀ at (upto (λ
 abbrev μ-loop : tie.MeasureT-loop
 μ-loop out₀ at ps k₀ out k = 8 - k
 
--- src/rings.rt:19:5
 loop-holds : tie.Need-loop-holds Inv-loop μ-loop
 unfolding put upto
 loop-holds c = (omega arith, refl)
 
--- src/rings.rt:20:17
 mul-p : tie.Need-mul-p Inv-loop μ-loop
 mul-p c = search needs
 
--- src/rings.rt:20:17
 array-copy-out-p : tie.Need-array-copy-out-p Inv-loop μ-loop
 array-copy-out-p c = search needs
 
--- src/rings.rt:21:27
 mul-put-vec : tie.Need-mul-put-vec Inv-loop μ-loop
 mul-put-vec c = search needs
 
--- src/rings.rt:21:22
 add-put-vec : tie.Need-add-put-vec Inv-loop μ-loop
 add-put-vec c = search needs
 
--- src/rings.rt:21:9
 put-vec-requires : tie.Need-put-vec-requires Inv-loop μ-loop
 put-vec-requires c κs = omega (arith, kept _ _ _ (c .before .before .before .loop .inv .1))
 
--- src/rings.rt:22:9
 add-k : tie.Need-add-k Inv-loop μ-loop
 add-k c = search needs
 
--- src/rings.rt:19:5
 loop-less : tie.Need-loop-less Inv-loop μ-loop
 loop-less c = search needs
 
--- src/rings.rt:19:5
 loop-again : tie.Need-loop-again Inv-loop μ-loop
 loop-again c = (omega arith, turn _ 3 (λ _. refl) _ _ _ (c .before .before .before .before .before .before .loop .k) (c .before .before .put-vec .ensures) (c .before .before .before .before .before .before .loop .inv .1) (omega arith))
 
--- src/rings.rt:14:1
 same-length : tie.Need-same-length Inv-loop μ-loop
 same-length c = kept _ _ _ (c .before .loop .inv .1)
 
--- src/rings.rt:14:1
 returns : tie.Need-returns Inv-loop μ-loop
 unfolding eight
 returns c = let e : c .before .loop .k ≡ 8 = omega arith in

@@ -7,8 +7,6 @@ use Rattle.buffers.specs.Put.{put, upto}
 use Rattle.buffers.proofs.Puts.{set-turn, kept}
 use Rattle.skin.proofs.rings.put_tags.Statement.{statement}
 use Rattle.skin.proofs.rings.put_tags.Tie as tie
-use Rattle.skin.proofs.rings.put_tags.Reads as reads
-use Rattle.skin.proofs.rings.put_tags.Lts as lts
 
 abbrev Inv-loop : tie.InvT-loop
 Inv-loop out₀ at tag k₀ out k = (k ≤ 8) × (out ≡ put out₀ at (upto (λ (j : ℕ). tag ∷ []) k))
@@ -16,40 +14,31 @@ Inv-loop out₀ at tag k₀ out k = (k ≤ 8) × (out ≡ put out₀ at (upto (�
 abbrev μ-loop : tie.MeasureT-loop
 μ-loop out₀ at tag k₀ out k = 8 - k
 
--- src/rings.rt:31:5
 loop-holds : tie.Need-loop-holds Inv-loop μ-loop
 unfolding put upto
 loop-holds c = (omega arith, refl)
 
--- src/rings.rt:32:13
 add-out : tie.Need-add-out Inv-loop μ-loop
 add-out c = search needs
 
--- src/rings.rt:32:9
 mul-out : tie.Need-mul-out Inv-loop μ-loop
 mul-out c = search needs
 
--- src/rings.rt:32:9
 slice-write-out : tie.Need-slice-write-out Inv-loop μ-loop
 slice-write-out c = omega (arith, kept _ _ _ (c .before .loop .inv .1))
 
--- src/rings.rt:33:9
 add-k : tie.Need-add-k Inv-loop μ-loop
 add-k c = search needs
 
--- src/rings.rt:31:5
 loop-less : tie.Need-loop-less Inv-loop μ-loop
 loop-less c = search needs
 
--- src/rings.rt:31:5
 loop-again : tie.Need-loop-again Inv-loop μ-loop
 loop-again c = (omega arith, set-turn (λ _. c .before .before .args .tag) _ _ _ (c .before .loop .k) (c .before .loop .inv .1) refl refl)
 
--- src/rings.rt:26:1
 same-length : tie.Need-same-length Inv-loop μ-loop
 same-length c = kept _ _ _ (c .before .loop .inv .1)
 
--- src/rings.rt:26:1
 returns : tie.Need-returns Inv-loop μ-loop
 unfolding put upto
 returns c = let e : c .before .loop .k ≡ 8 = omega arith in

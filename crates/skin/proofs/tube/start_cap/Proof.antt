@@ -3,47 +3,31 @@ use Rattle.course.specs.Samples.{ringAt}
 use Rattle.skin.specs.Tube.{ringPositions, ringNormals, ringTags, startNormal}
 use Rattle.skin.proofs.tube.start_cap.Statement.{statement}
 use Rattle.skin.proofs.tube.start_cap.Tie as tie
-use Rattle.skin.proofs.tube.start_cap.Reads as reads
-use Rattle.skin.proofs.tube.start_cap.Lts as lts
-use Rattle.course.proofs.samples.frame_at.Reads as frame-at-reads
-use Rattle.course.proofs.samples.ring.Reads as ring-reads
-use Rattle.course.proofs.samples.tag_at.Reads as tag-at-reads
-use Rattle.skin.proofs.rings.put_capped.Reads as put-capped-reads
-use Rattle.vectors.proofs.Vec3.scale.Reads as scale-reads
 
--- src/tube.rt:41:9
 frame-at-requires : tie.Need-frame-at-requires
 frame-at-requires c κs = search needs
 
--- src/tube.rt:42:9
 ring-requires : tie.Need-ring-requires
 ring-requires c κs = search needs
 
--- src/tube.rt:43:9
 tag-at-requires : tie.Need-tag-at-requires
 tag-at-requires c κs = search needs
 
--- src/tube.rt:45:9
 scale-requires : tie.Need-scale-requires
 scale-requires c κs = search needs
 
--- src/tube.rt:46:5
 put-capped-requires : tie.Need-put-capped-requires
 put-capped-requires c κs = search needs
 
--- src/tube.rt:26:1
 same-length : tie.Need-same-length
 same-length c = search needs
 
--- src/tube.rt:26:1
 same-length-2 : tie.Need-same-length-2
 same-length-2 c = search needs
 
--- src/tube.rt:26:1
 same-length-3 : tie.Need-same-length-3
 same-length-3 c = search needs
 
--- src/tube.rt:26:1
 returns : tie.Need-returns
 unfolding ringPositions ringNormals ringTags startNormal ringAt
 returns c = rw (c .before .before .before .before .before .before .before .before .before .before .scale .ensures, c .before .before .before .before .before .before .before .before .before .before .before .before .tag-at .ensures, c .before .before .before .before .before .before .before .before .before .before .before .before .before .ring .ensures, c .before .before .before .before .before .before .before .before .before .before .before .before .before .before .frame-at .ensures) at (c .before .before .before .before .before .before .put-capped .ensures)

@@ -5,70 +5,49 @@ use Rattle.skin.proofs.Laws.{length-front, laid, covered}
 use borrow.Author.Needs.{needs}
 use Rattle.skin.proofs.tube.tube_vertices.Statement.{statement}
 use Rattle.skin.proofs.tube.tube_vertices.Tie as tie
-use Rattle.skin.proofs.tube.tube_vertices.Reads as reads
-use Rattle.skin.proofs.tube.tube_vertices.Lts as lts
-use Rattle.course.proofs.residues.lay_course.Reads as lay-course-reads
-use Rattle.shape.proofs.section.half_sizes.Reads as half-sizes-reads
-use Rattle.shape.proofs.section.spokes.Reads as spokes-reads
-use Rattle.skin.proofs.tube.skin.Reads as skin-reads
 
--- src/tube.rt:149:13
 mul-m : tie.Need-mul-m
 mul-m c = search needs
 
--- src/tube.rt:150:25
 half-sizes-requires : tie.Need-half-sizes-requires
 half-sizes-requires c κs = search needs
 
--- src/tube.rt:150:9
 spokes-requires : tie.Need-spokes-requires
 spokes-requires c κs = search needs
 
--- src/tube.rt:151:5
 lay-course-requires : tie.Need-lay-course-requires
 lay-course-requires c κs = search needs
 
--- src/tube.rt:153:10
 slice-aggregate-skin : tie.Need-slice-aggregate-skin
 slice-aggregate-skin c = sym (length-front (c .before .before .before .before .before .before .before .before .before .before .before .before .before .args .kind) (now (c .before .before .before .before .before .before .before .before .before .before .before .before .before .args .flags)) (now (c .before .before .before .before .before .before .before .before .before .before .before .before .before .args .course)) (c .before .before .before .before .before .before .before .before .before .before .before .before .before .args .n) (c .before .before .before .before .before .before .before .before .before .before .before .before .before .args .first) (c .before .before .before .before .before .before .before .before .before .before .before .before .before .pre .0) (c .before .before .before .before .lay-course .ensures))
 
--- src/tube.rt:153:22
 mul-skin : tie.Need-mul-skin
 mul-skin c = search needs
 
--- src/tube.rt:153:22
 sub-skin : tie.Need-sub-skin
 sub-skin c = search needs
 
--- src/tube.rt:153:22
 part-skin-start : tie.Need-part-skin-start
 part-skin-start c = search needs
 
--- src/tube.rt:153:22
 part-skin-end : tie.Need-part-skin-end
 part-skin-end c = search needs
 
--- src/tube.rt:153:5
 skin-requires : tie.Need-skin-requires
 skin-requires c κs = (laid (c .before .before .before .before .before .before .before .before .before .before .before .before .before .before .before .before .before .args .kind) (now (c .before .before .before .before .before .before .before .before .before .before .before .before .before .before .before .before .before .args .flags)) (now (c .before .before .before .before .before .before .before .before .before .before .before .before .before .before .before .before .before .args .course)) (c .before .before .before .before .before .before .before .before .before .before .before .before .before .before .before .before .before .args .n) (c .before .before .before .before .before .before .before .before .before .before .before .before .before .before .before .before .before .args .first) (c .before .before .before .before .before .before .before .before .before .before .before .before .before .before .before .before .before .pre .0) (c .before .before .before .before .before .before .before .before .lay-course .ensures) (c .before .before .before .before .before .before .before .before .before .before .spokes .ensures ∙ ap spokesOf (c .before .before .before .before .before .before .before .before .before .before .before .half-sizes .ensures)), c .before .before .before .before .before .before .before .before .before .before .before .before .before .before .before .before .before .pre .1)
 
--- src/tube.rt:135:1
 same-length : tie.Need-same-length
 same-length c = search needs
 
--- src/tube.rt:135:1
 same-length-2 : tie.Need-same-length-2
 same-length-2 c = search needs
 
--- src/tube.rt:135:1
 same-length-3 : tie.Need-same-length-3
 same-length-3 c = search needs
 
--- src/tube.rt:135:1
 same-length-4 : tie.Need-same-length-4
 same-length-4 c = search needs
 
--- src/tube.rt:135:1
 returns : tie.Need-returns
 returns c = (covered (c .before .before .before .before .before .before .before .before .before .before .before .before .before .before .before .before .before .before .before .before .before .before .before .before .args .kind) (now (c .before .before .before .before .before .before .before .before .before .before .before .before .before .before .before .before .before .before .before .before .before .before .before .before .args .flags)) (now (c .before .before .before .before .before .before .before .before .before .before .before .before .before .before .before .before .before .before .before .before .before .before .before .before .args .course)) (c .before .before .before .before .before .before .before .before .before .before .before .before .before .before .before .before .before .before .before .before .before .before .before .before .args .n) (c .before .before .before .before .before .before .before .before .before .before .before .before .before .before .before .before .before .before .before .before .before .before .before .before .args .first) (c .before .before .before .before .before .before .before .before .before .before .before .before .before .before .before .before .before .before .before .before .before .before .before .before .pre .0) (c .before .before .before .before .before .before .before .before .before .before .before .before .before .before .before .lay-course .ensures) (c .before .before .before .before .before .before .skin .ensures), c .before .before .before .before .before .before .before .before .before .before .before .before .before .before .before .lay-course .ensures)
 
