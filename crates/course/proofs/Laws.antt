@@ -1,16 +1,15 @@
 -- Turns of the loops over a tube's residues, over plain lists and vectors.
 use mathlib.Core.Path.{_≡_, refl, sym, ap, _∙_}
 use mathlib.Core.List.{List, [], _∷_, _++_, append-nil}
-use mathlib.Core.Bool.{cond}
-use Prim.Native.Nat.{ℕ, zero, suc, _+_, _*_, _-_, _<_, _≤_}
+use Prim.Native.Nat.{ℕ, zero, suc, _+_, _*_, _-_, _≤_}
 use native.Mathlib.Omega.{arith}
 use native.Mathlib.Nat.{add-zero, add-suc}
 use native.Mathlib.Numerals.{add-one}
-use lib.ListN.{length, getD, take, drop, set, length-set, length-append, length-take, length-drop, drop-of-length-le}
+use lib.ListN.{length, getD, take, drop, set, length-drop, drop-of-length-le}
 use lib.Seq.{take-all, take-set-le, getD-drop, take-at, drop-at, length-take-le}
 use lib.Ieee.{Float, nan}
 use Rattle.vectors.specs.declared.Vec3.{Vec3}
-use Rattle.vectors.specs.Vec.{vadd, vzero, floats, vecAt}
+use Rattle.vectors.specs.Vec.{vadd, floats, vecAt}
 use Rattle.buffers.specs.Put.{put, upto}
 use Rattle.buffers.proofs.Puts.{turn, length-put, length-upto, getD-put-past, put-eq}
 use Rattle.shape.specs.declared.Kind.{Kind}
@@ -18,7 +17,7 @@ use Rattle.shape.specs.declared.Kind.the-variants.{Coil, Helix, Sheet}
 use Rattle.shape.specs.declared.Oxygen.{Oxygen}
 use Rattle.shape.specs.Guide.{agreeing, smoothGuide, smoothPosition}
 use Rattle.course.specs.Smooth.{vectors, Smoothable, after, guidePiece, guidePass, positionPiece, positionPass, repeated, smoothGuides, smoothPositions}
-use Rattle.course.specs.Residues.{oxygenAt, tangentAt, rawAt, signedAt, signedPiece, signed, sumOf, same, settled, guidesOf, pointsOf}
+use Rattle.course.specs.Residues.{oxygenAt, rawAt, signedAt, signedPiece, signed, sumOf, same, settled, guidesOf, pointsOf}
 
 -- what fills the whole list is the list
 pub put-all : {A : Type 0} (l xs : List A) {b : List A} → b ≡ put l 0 xs → length l ≡ length xs → b ≡ xs

@@ -13,9 +13,8 @@ use vectors::get_vec;
 use vectors::put_vec;
 ghost use mathlib.Core.Path.{_≡_};
 ghost use mathlib.Core.List.{_++_};
-ghost use Prim.Native.Nat.{ℕ, _+_, _*_, _-_, _<_, _≤_};
+ghost use Prim.Native.Nat.{_+_, _*_, _-_, _<_, _≤_};
 ghost use lib.ListN.{length, take, drop};
-ghost use Rattle.vectors.specs.Vec.{vecAt};
 ghost use Rattle.course.specs.Smooth.{vectors, Smoothable};
 ghost use Rattle.course.specs.Residues.{oxygenAt, tangentAt, rawAt, signed, sumOf, same, settled, guidesOf, pointsOf};
 
@@ -69,7 +68,8 @@ fn raw_at(flags: &[u32], course: &[f32], n: usize, i: usize) -> Vec3
 // The guides, each turned to agree with the one before, over the oxygens.
 fn signed_guides(flags: &[u32], course: &mut [f32], n: usize)
     requires { ⌜ (1 ≤ n) × (n ≤ length (now flags)) × (length (now course) ≡ 6 * n) ⌝ }
-    ensures { λ _. ⌜ now (course .exit) ≡ take (3 * n) (now (course .entry)) ++ signed (take (3 * n) (now (course .entry))) (oxygenAt (now (flags .entry)) (drop (3 * n) (now (course .entry)))) n ⌝ }
+    ensures { λ _. ⌜ now (course .exit) ≡ take (3 * n) (now (course .entry))
+        ++ signed (take (3 * n) (now (course .entry))) (oxygenAt (now (flags .entry)) (drop (3 * n) (now (course .entry)))) n ⌝ }
 {
     let mut prev = raw_at(flags, course, n, 0);
     let mut i = 0usize;
@@ -151,7 +151,8 @@ fn straighten(points: &mut [f32], kind: Kind)
 // The tube's guides, over its oxygens.
 fn lay_guides(flags: &[u32], course: &mut [f32], n: usize, kind: Kind)
     requires { ⌜ (2 ≤ n) × (n ≤ length (now flags)) × (length (now course) ≡ 6 * n) ⌝ }
-    ensures { λ _. ⌜ now (course .exit) ≡ take (3 * n) (now (course .entry)) ++ guidesOf kind (take (3 * n) (now (course .entry))) (oxygenAt (now (flags .entry)) (drop (3 * n) (now (course .entry)))) n ⌝ }
+    ensures { λ _. ⌜ now (course .exit) ≡ take (3 * n) (now (course .entry))
+        ++ guidesOf kind (take (3 * n) (now (course .entry))) (oxygenAt (now (flags .entry)) (drop (3 * n) (now (course .entry)))) n ⌝ }
 {
     let m = 3 * n;
     signed_guides(flags, course, n);
@@ -161,7 +162,8 @@ fn lay_guides(flags: &[u32], course: &mut [f32], n: usize, kind: Kind)
 // Both lists of a tube, over what they are made from. Guides come first, since they need the C-alphas as they were.
 pub fn lay_course(flags: &[u32], course: &mut [f32], n: usize, kind: Kind)
     requires { ⌜ (2 ≤ n) × (n ≤ length (now flags)) × (length (now course) ≡ 6 * n) ⌝ }
-    ensures { λ _. ⌜ now (course .exit) ≡ pointsOf kind (take (3 * n) (now (course .entry))) n ++ guidesOf kind (take (3 * n) (now (course .entry))) (oxygenAt (now (flags .entry)) (drop (3 * n) (now (course .entry)))) n ⌝ }
+    ensures { λ _. ⌜ now (course .exit) ≡ pointsOf kind (take (3 * n) (now (course .entry))) n
+        ++ guidesOf kind (take (3 * n) (now (course .entry))) (oxygenAt (now (flags .entry)) (drop (3 * n) (now (course .entry)))) n ⌝ }
 {
     let m = 3 * n;
     lay_guides(flags, course, n, kind);

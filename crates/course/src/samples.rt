@@ -15,10 +15,10 @@ use shape::spline::catmull_rom_tangent;
 use vectors::Vec3;
 use vectors::get_vec;
 ghost use mathlib.Core.Path.{_≡_};
-ghost use Prim.Native.Nat.{ℕ, _+_, _*_, _-_, _^_, _<_, _≤_};
+ghost use Prim.Native.Nat.{_+_, _*_, _-_, _^_, _<_, _≤_};
 ghost use lib.ListN.{length};
 ghost use Rattle.shape.specs.Ring.{halfSizes, spokesOf};
-ghost use Rattle.course.specs.Samples.{beforeOf, afterOf, spanOf, spanAt, paramAt, frameOf, frameAt, ringAt, ringFrom, tagAt};
+ghost use Rattle.course.specs.Samples.{beforeOf, afterOf, spanOf, spanAt, paramAt, frameOf, frameAt, ringFrom, tagAt};
 
 fn before(p: &[f32], i: usize, p1: Vec3, p2: Vec3) -> Vec3
     requires { ⌜ 3 * i + 3 ≤ length (now p) ⌝ }

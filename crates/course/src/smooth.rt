@@ -4,7 +4,7 @@ use shape::guides::smooth_position;
 use vectors::get_vec;
 use vectors::put_vec;
 ghost use mathlib.Core.Path.{_≡_};
-ghost use Prim.Native.Nat.{ℕ, _+_, _*_, _-_, _<_, _≤_};
+ghost use Prim.Native.Nat.{_+_, _*_, _-_, _<_, _≤_};
 ghost use lib.ListN.{length};
 ghost use Rattle.course.specs.Smooth.{vectors, Smoothable, after, guidePass, positionPass, smoothGuides, smoothPositions};
 

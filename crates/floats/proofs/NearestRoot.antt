@@ -4,13 +4,13 @@
 use mathlib.Core.Path.{_≡_, refl, sym, ap, _∙_, subst}
 use mathlib.Core.Logic.{_⊎_, inl, inr}
 use Prim.Native.Nat.{ℕ, zero, suc, _+_, _-_, _*_, _/_, _%_, _^_, _≤_, _<_, compare, Ordering, Ordering·lt, Ordering·eq, Ordering·gt}
-use native.Mathlib.Nat.{le-refl, le-trans, le-of-eq, le-of-lt, le-of-suc-le-suc, lt-of-lt-of-le, lt-of-le-of-lt, lt-of-not-le, not-le-of-lt, lt-irrefl, eq-or-lt-of-le, lt-suc-self, mul-comm, mul-assoc, mul-mul-mul-comm, suc-mul, mul-le-mul, mul-le-mul-left, mul-le-mul-right, mul-lt-mul-of-pos-right, lt-of-mul-lt-mul-right, div-lt-iff-lt-mul, le-div-iff-mul-le, div-mul-le-self, pow-succ', two-mul, one-mul, mul-left-comm, add-mul, add-zero}
+use native.Mathlib.Nat.{le-trans, le-of-eq, le-of-lt, le-of-suc-le-suc, lt-of-lt-of-le, lt-of-le-of-lt, lt-of-not-le, not-le-of-lt, lt-irrefl, lt-suc-self, mul-comm, mul-assoc, mul-mul-mul-comm, mul-le-mul, mul-le-mul-left, mul-le-mul-right, mul-lt-mul-of-pos-right, lt-of-mul-lt-mul-right, div-lt-iff-lt-mul, le-div-iff-mul-le, div-mul-le-self, pow-succ', two-mul, one-mul, mul-left-comm, add-mul, add-zero}
 use native.Mathlib.Numerals.{add-one}
 use native.Mathlib.Omega.{arith}
 use mathlib.Core.Bool.{Bool, true, false, not}
 use lib.Dec.{T, ltb, ltb→lt, nltb→le, lit≤}
 use lib.Pow.{pow-add, pow-pos, pow-mono}
-use lib.Ieee.{Float, fin, Format, binary32, binary64, prec, emax, low, size, nearest, units, hid}
+use lib.Ieee.{Float, Format, binary32, binary64, prec, emax, low, size, nearest, hid}
 use lib.Ieee.Digits.{size-lt, size-reaches}
 use lib.Ieee.Fits.{two, nearest-le}
 use lib.Ieee.Exact.{HasValue, units-val}
@@ -18,7 +18,7 @@ use lib.Ieee.Scale.{overflow}
 use Rattle.floats.specs.Floats.{floorRoot, nearestRoot, root}
 use Rattle.floats.proofs.Grid.{pow-lt-back, twice-hid}
 use Rattle.floats.proofs.Closest.{Cmp, cmp}
-use Rattle.floats.proofs.Squares.{Whole, floorRoot-is, sq-lt}
+use Rattle.floats.proofs.Squares.{floorRoot-is, sq-lt}
 use Rattle.floats.proofs.Roots.{root-at}
 
 -- no value of the format lies between two neighbours v * 2 ^ k and (v + 1) * 2 ^ k, for a v of all prec digits

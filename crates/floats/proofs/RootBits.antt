@@ -2,15 +2,15 @@
 use mathlib.Core.Path.{_≡_, refl, sym, ap, _∙_, subst}
 use mathlib.Core.Logic.{_⊎_, inl, inr}
 use Prim.Native.Nat.{ℕ, zero, suc, _+_, _-_, _*_, _/_, _%_, _^_, _≤_, _<_, min}
-use native.Mathlib.Nat.{le-trans, le-of-eq, le-of-suc-le-suc, lt-of-lt-of-le, lt-of-le-of-lt, not-le-of-lt, zero-lt-suc, mul-one, mul-assoc, mul-pos, mul-le-mul, mul-le-mul-right, mul-lt-mul-of-pos-right, mod-eq-of-lt, mod-lt, mod-le, eq-or-lt-of-le, suc-add}
+use native.Mathlib.Nat.{le-trans, le-of-eq, le-of-suc-le-suc, lt-of-lt-of-le, lt-of-le-of-lt, mul-one, mul-assoc, mul-pos, mul-le-mul, mul-le-mul-right, mul-lt-mul-of-pos-right, mod-eq-of-lt, mod-le, eq-or-lt-of-le, suc-add}
 use native.Mathlib.Numerals.{add-one}
 use native.Mathlib.Omega.{arith}
-use mathlib.Core.Bool.{Bool, true, false, not, cond, true≢false}
-use lib.Dec.{T, leb, ltb, eqb, leb→le, nleb→lt, ltb→lt, nltb→le, not-T, le→leb, lit<, lit≤}
+use mathlib.Core.Bool.{Bool, true, false, not, true≢false}
+use lib.Dec.{T, leb, ltb, ltb→lt, nltb→le, le→leb, lit≤}
 use lib.Arith.{lt→nleb, le→nltb}
 use lib.Pow.{pow-add, pow-pos, pow-mono, shl-exact}
 use lib.Count.{leadingZeros, leading-top}
-use lib.Ieee.{Float, nan, inf, fin, Format, binary32, binary64, hid, ones, top, ofFields, ofBits, toBits, nanBits, isNan, ne}
+use lib.Ieee.{Float, nan, inf, fin, Format, binary32, hid, ones, top, ofFields, ofBits, toBits, nanBits, isNan, ne}
 use lib.Ieee.Bits.{is-true, is-false, nanBits-above}
 use lib.Ieee.Exact.{HasValue}
 use Rattle.floats.specs.Floats.{floorRoot, nearestRoot, root}

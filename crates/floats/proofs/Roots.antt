@@ -1,21 +1,21 @@
 -- The square root of a value, over the format: it goes by the value, its pattern, and that it is the nearest. Assumes nothing.
 use mathlib.Core.Path.{_≡_, refl, sym, ap, _∙_, subst}
-use mathlib.Core.Logic.{_⊎_, inl, inr}
-use Prim.Native.Nat.{ℕ, zero, suc, _+_, _-_, _*_, _/_, _%_, _^_, _≤_, _<_, min, compare, Ordering, Ordering·lt, Ordering·gt}
-use native.Mathlib.Nat.{le-trans, le-of-eq, le-of-lt, le-of-suc-le-suc, lt-of-lt-of-le, lt-of-le-of-lt, lt-of-not-le, not-le-of-lt, lt-irrefl, zero-lt-suc, zero-add, zero-mul, mul-pos, mul-comm, mul-assoc, mul-right-comm, mul-mul-mul-comm, mul-le-mul, mul-le-mul-right, mul-lt-mul-of-pos-right, mul-div-cancel, div-lt-iff-lt-mul, le-div-iff-mul-le}
+use mathlib.Core.Logic.{_⊎_, inr}
+use Prim.Native.Nat.{ℕ, zero, suc, _+_, _-_, _*_, _/_, _^_, _≤_, _<_, min, compare, Ordering, Ordering·lt, Ordering·gt}
+use native.Mathlib.Nat.{le-trans, le-of-eq, lt-of-lt-of-le, lt-of-le-of-lt, lt-irrefl, zero-add, zero-mul, mul-pos, mul-assoc, mul-right-comm, mul-mul-mul-comm, mul-lt-mul-of-pos-right, mul-div-cancel, div-lt-iff-lt-mul, le-div-iff-mul-le}
 use native.Mathlib.Numerals.{add-one}
 use native.Mathlib.Omega.{arith}
-use mathlib.Core.Bool.{Bool, true, false, not, cond, true≢false, false≢true}
+use mathlib.Core.Bool.{Bool, true, false, not, true≢false, false≢true}
 use lib.Dec.{T, leb, leb→le, nleb→lt}
-use lib.Pow.{pow-add, pow-pos, pow-mono}
-use lib.Ieee.{Float, nan, inf, fin, Format, prec, emax, low, up, down, size, nearest, units, hid, ones, top, toBits}
+use lib.Pow.{pow-add, pow-pos}
+use lib.Ieee.{Float, nan, inf, fin, Format, prec, low, up, down, size, nearest, units, hid, ones, toBits}
 use lib.Ieee.Fits.{two, two-le-pos, down-pos, nearest-le}
 use lib.Ieee.Nearest.{nearest-ge}
 use lib.Ieee.Exact.{HasValue}
 use Rattle.floats.specs.Floats.{floorRoot, nearestRoot, root}
 use Rattle.floats.proofs.Grid.{dropped, pattern-units}
 use Rattle.floats.proofs.Closest.{cmp-lt, cmp-gt}
-use Rattle.floats.proofs.Squares.{Whole, Near, floorRoot-is, whole-scale, sq-lt, sq-next, near-unique, near-down, near-up}
+use Rattle.floats.proofs.Squares.{Whole, Near, floorRoot-is, whole-scale, sq-next, near-unique, near-down, near-up}
 
 -- ---- the root goes by the value
 pub root-at : (f : Format) (x : Float) (a : ℕ) → HasValue x false a (2 ^ low f) → 0 < a → root f x ≡ nearestRoot f (a * 2 ^ low f)

@@ -1,14 +1,14 @@
 -- The absolute value by two comparisons with zero, and the greater by one. Assumes nothing.
 use mathlib.Core.Path.{_≡_, refl, sym, ap, _∙_, subst}
 use Prim.Native.Nat.{ℕ, zero, suc, _+_, _*_, _^_, _<_}
-use native.Mathlib.Nat.{zero-lt-suc, lt-irrefl, mul-pos, mul-one, one-mul, pow-succ', not-suc-le-zero}
+use native.Mathlib.Nat.{zero-lt-suc, mul-pos, mul-one, one-mul, pow-succ'}
 use native.Mathlib.Omega.{arith}
-use mathlib.Core.Bool.{Bool, true, false, not, _&&_, Bool·beq, _||_, cond, true≢false, false≢true}
+use mathlib.Core.Bool.{Bool, true, false, not, Bool·beq, _||_, cond, true≢false, false≢true}
 use lib.IntN.{ℤ, pos, negsuc}
 use lib.Dec.{T, eqb, ltb, eqb→eq, ltb→lt, lt→ltb}
 use lib.Pow.{pow-pos}
-use lib.Ieee.{Float, nan, inf, fin, Format, binary32, up, down, lt, eq, ne, neg, fits, isNan, level, below, ofBits}
-use lib.Ieee.Fits.{and-l, up-pos, down-pos}
+use lib.Ieee.{Float, nan, inf, fin, Format, binary32, up, down, lt, eq, neg, fits, isNan, level, ofBits}
+use lib.Ieee.Fits.{and-l, up-pos}
 use Rattle.floats.specs.Floats.{absolute, greater}
 
 abbrev zeroF : Float

@@ -1,13 +1,12 @@
 -- Whole roots: what `floorRoot` is, how it goes with a scale, and that a nearest whole root is one only. Nothing here is about floats. Assumes nothing.
 use mathlib.Core.Path.{_≡_, refl, sym, ap, _∙_, subst}
-use mathlib.Core.Logic.{_⊎_, inl, inr}
-use Prim.Native.Nat.{ℕ, zero, suc, _+_, _-_, _*_, _/_, _%_, _^_, _≤_, _<_}
-use native.Mathlib.Nat.{le-refl, le-trans, le-of-eq, le-of-lt, le-antisymm, le-of-suc-le-suc, lt-of-lt-of-le, lt-of-le-of-lt, lt-of-not-le, not-le-of-lt, lt-irrefl, eq-or-lt-of-le, zero-lt-suc, add-zero, add-comm, add-assoc, add-left-comm, mul-comm, mul-assoc, mul-left-comm, mul-right-comm, mul-mul-mul-comm, mul-add, add-mul, suc-mul, mul-suc, mul-le-mul, mul-le-mul-left, mul-le-mul-right, mul-lt-mul-of-pos-right, lt-of-mul-lt-mul-right, pow-succ', le-div-iff-mul-le, div-lt-iff-lt-mul, zero-mul, one-mul, mul-one}
+use Prim.Native.Nat.{ℕ, zero, suc, _+_, _-_, _*_, _/_, _^_, _≤_, _<_}
+use native.Mathlib.Nat.{le-trans, le-of-eq, le-antisymm, le-of-suc-le-suc, lt-of-lt-of-le, lt-of-le-of-lt, lt-of-not-le, not-le-of-lt, add-comm, add-assoc, mul-comm, mul-mul-mul-comm, mul-add, add-mul, suc-mul, mul-suc, mul-le-mul, mul-le-mul-right, mul-lt-mul-of-pos-right, pow-succ', le-div-iff-mul-le, div-lt-iff-lt-mul, one-mul, mul-one}
 use native.Mathlib.Numerals.{add-one}
 use native.Mathlib.Omega.{arith}
 use mathlib.Core.Bool.{Bool, true, false, not, cond}
 use lib.Dec.{T, leb, leb→le, nleb→lt}
-use lib.Pow.{pow-add, pow-pos, pow-mono}
+use lib.Pow.{pow-pos}
 use lib.Ieee.{size}
 use lib.Ieee.Digits.{size-lt}
 use Rattle.floats.specs.Floats.{rootDigits, floorRoot}

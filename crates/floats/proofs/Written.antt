@@ -2,10 +2,10 @@
 use mathlib.Core.Path.{_≡_, refl, sym, ap, _∙_, subst}
 use Prim.Native.Nat.{ℕ, zero, suc, _+_, _-_, _*_, _/_, _^_, _≤_, _<_, compare}
 use native.Mathlib.Nat.{le-refl, le-trans, lt-of-le-of-lt}
-use mathlib.Core.Bool.{Bool, true, false, not, cond, true≢false}
+use mathlib.Core.Bool.{Bool, true, false, not, cond}
 use lib.Dec.{T, ltb, ltb→lt}
 use lib.Pow.{pow-lt}
-use lib.Ieee.{Float, nan, inf, fin, Format, binary32, prec, emax, low, up, down, size, nearest, odd, units, toBits, ofBits, nanBits, isNan, fits, div, ne}
+use lib.Ieee.{Float, nan, inf, fin, Format, binary32, prec, low, up, down, size, nearest, odd, units, toBits, ofBits, nanBits, isNan, fits, div, ne}
 use lib.Ieee.Bits.{ofBits-toBits, nanBits-is}
 use lib.Ieee.Fits.{nan-fits, inf-fits, odd-fits, cond-fits, round-fits, nearest-le, kept-lt}
 use lib.Ieee.Scale.{overflow}

@@ -2,7 +2,7 @@
 ghost use mathlib.Core.Path.{_≡_};
 ghost use mathlib.Core.Bool.{Bool, cond};
 ghost use Prim.Native.Nat.{_+_, _*_, _%_, _^_, _<_, _≤_};
-ghost use lib.Ieee.{binary32, binary64, toBits, ofBits, ofFields, top};
+ghost use lib.Ieee.{binary32, binary64, toBits, ofBits, ofFields};
 ghost use lib.Ieee.Nearest.{closest};
 ghost use Rattle.floats.specs.Floats.{narrowed};
 

@@ -4,7 +4,6 @@ use mathlib.Core.Bool.{Bool, true, false}
 use Prim.Native.Nat.{ℕ, _+_, _*_, _/_, _^_, _≤_, _<_}
 use lib.Count.{trailingZeros}
 use lib.Dec.{T, leb, eqb, leb→le, eqb→eq}
-use lib.ListN.{getD, length}
 use lib.Ieee.{Float, nan, inf, fin, up, down, binary32, ofBits, ofFields, odd, span, climb, size}
 use lib.Ieee.Exact.{HasValue}
 use Rattle.vectors.specs.Vec.{lit, one}

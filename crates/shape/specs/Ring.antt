@@ -1,5 +1,5 @@
 -- Half-sizes, the eight angles, and a cross-section: eight points on an ellipse and their normals.
-use mathlib.Core.Bool.{Bool, true, false, cond}
+use mathlib.Core.Bool.{Bool, false, cond}
 use mathlib.Core.List.{List, [], _∷_}
 use Prim.Native.Nat.{ℕ, _+_, _-_}
 use lib.Dec.{eqb}

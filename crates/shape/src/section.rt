@@ -5,8 +5,8 @@ use crate::Ring;
 use crate::Spoke;
 use vectors::Vec3;
 ghost use mathlib.Core.Path.{_≡_};
-ghost use mathlib.Core.Bool.{true, false};
-ghost use Prim.Native.Nat.{ℕ, _+_, _<_, _≤_};
+ghost use mathlib.Core.Bool.{false};
+ghost use Prim.Native.Nat.{_+_, _<_, _≤_};
 ghost use Rattle.shape.specs.Ring.{cosAt, sinAt, arrow, inArrow, halfSizes, profileOf, steep, spoke, spokeAt, spokesOf, pointOn, normalOn, ringOver, crossSection};
 
 // Bits of the cosine and the sine of TAU * k / 8, as the oracle's build machine gives them.

@@ -1,19 +1,18 @@
 -- Worked cases of a tube's shape, each a test that antt computes. Assumes nothing.
 use mathlib.Core.Bool.{Bool, true, false, _&&_}
 use mathlib.Core.List.{List, [], _∷_, _++_}
-use Prim.Native.Nat.{ℕ, _+_, _*_, _-_}
+use Prim.Native.Nat.{ℕ, _+_, _-_}
 use lib.Count.{trailingZeros}
 use lib.Dec.{T, eqb}
-use lib.ListN.{getD, replicate}
+use lib.ListN.{replicate}
 use lib.Ieee.{Float, binary32, toBits, ofBits, ofFields, odd, span, climb, size, units, round, sum, add, sub, neg, mul, div, ofInt, lt, eq, le, isNan}
 use Rattle.floats.specs.Floats.{root, nearestRoot, floorRoot, rootDigits, greater, absolute}
 use Rattle.vectors.specs.declared.Vec3.{Vec3}
-use Rattle.vectors.specs.Vec.{vadd, vsub, vscale, vcross, vdot, vlength, normalised, vecAt, lit, one, floats}
+use Rattle.vectors.specs.Vec.{vadd, vsub, vscale, vcross, vdot, vlength, normalised, vecAt, lit, one}
 use Rattle.buffers.specs.Put.{put, upto}
-use Rattle.shape.specs.declared.Kind.{Kind}
-use Rattle.shape.specs.declared.Kind.the-variants.{Coil, Helix, Sheet}
+use Rattle.shape.specs.declared.Kind.the-variants.{Coil, Sheet}
 use Rattle.shape.specs.declared.Oxygen.{Oxygen}
-use Rattle.shape.specs.declared.Oxygen.the-variants.{At, Missing}
+use Rattle.shape.specs.declared.Oxygen.the-variants.{Missing}
 use Rattle.shape.specs.Spline.{bend, twist, catmullRom, catmullRomTangent}
 use Rattle.shape.specs.Guide.{fallbackPerp, across, upright, computeGuide, rawGuide, orUp, tangentOf, directed, agreeing, weighted, smoothGuide, smoothPosition, between}
 use Rattle.shape.specs.Ring.{cosBits, sinBits, cosAt, sinAt, halfSizes, inArrow, arrow, profileOf, steep, spokeAt, spokesOf, pointOn, normalOn, ringOver, crossSection}
@@ -21,7 +20,6 @@ use Rattle.course.specs.Smooth.{guidePass, positionPass, repeated, smoothGuides
 use Rattle.course.specs.Residues.{tangentAt, rawAt, signedAt, signed, sumOf, same, settled, guidesOf, pointsOf}
 use Rattle.course.specs.Samples.{sampleCount, spanOf, spanAt, paramAt, frameOf, frameAt, ringAt, tagAt}
 use Rattle.skin.specs.Tube.{ordered, eight, ringPositions, ringNormals, ringTags, startNormal, endNormal, skinPositions, skinNormals, positionsOf, normalsOf, tagsOf}
-use Rattle.skin.specs.Box.{onEach, over, boxOf}
 
 -- two lists of words are the same
 unfoldable pub alike : List ℕ → List ℕ → Bool

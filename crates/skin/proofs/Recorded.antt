@@ -1,18 +1,17 @@
 -- A helix and a sheet of three residues, two of them with an oxygen, against words recorded from the Rust: rings 0, 5, 12 and 16, and the
 -- normals of both caps. Assumes nothing.
-use mathlib.Core.Bool.{Bool, true, false, _&&_}
+use mathlib.Core.Bool.{Bool, true, _&&_}
 use mathlib.Core.List.{List, [], _∷_, _++_}
-use Prim.Native.Nat.{ℕ, _+_, _*_, _-_}
+use Prim.Native.Nat.{ℕ, _+_, _-_}
 use lib.Count.{trailingZeros}
-use lib.Dec.{T, eqb}
-use lib.ListN.{getD, replicate}
-use lib.Ieee.{Float, binary32, toBits, ofBits, ofFields, odd, span, climb, size, units, round, sum, add, sub, neg, mul, div, ofInt, lt, eq, le, isNan}
+use lib.Dec.{T}
+use lib.ListN.{getD}
+use lib.Ieee.{Float, toBits, ofBits, ofFields, odd, span, climb, size, units, round, sum, add, sub, neg, mul, div, ofInt, lt, eq, le, isNan}
 use Rattle.floats.specs.Floats.{root, nearestRoot, floorRoot, rootDigits, greater, absolute}
-use Rattle.vectors.specs.declared.Vec3.{Vec3}
-use Rattle.vectors.specs.Vec.{vadd, vsub, vscale, vcross, vdot, vlength, normalised, vecAt, lit, one, floats}
+use Rattle.vectors.specs.Vec.{vadd, vsub, vscale, vcross, vdot, vlength, normalised, vecAt, lit, floats}
 use Rattle.buffers.specs.Put.{put, upto}
 use Rattle.shape.specs.declared.Kind.{Kind}
-use Rattle.shape.specs.declared.Kind.the-variants.{Coil, Helix, Sheet}
+use Rattle.shape.specs.declared.Kind.the-variants.{Helix, Sheet}
 use Rattle.shape.specs.declared.Oxygen.{Oxygen}
 use Rattle.shape.specs.declared.Oxygen.the-variants.{At, Missing}
 use Rattle.shape.specs.Spline.{bend, twist, catmullRom, catmullRomTangent}
@@ -20,8 +19,8 @@ use Rattle.shape.specs.Guide.{fallbackPerp, across, upright, computeGuide, rawG
 use Rattle.shape.specs.Ring.{cosBits, sinBits, cosAt, sinAt, halfSizes, inArrow, arrow, profileOf, steep, spokeAt, spokesOf, pointOn, normalOn, ringOver, crossSection}
 use Rattle.course.specs.Smooth.{guidePass, positionPass, repeated, smoothGuides, smoothPositions}
 use Rattle.course.specs.Residues.{tangentAt, rawAt, signedAt, signed, sumOf, same, settled, guidesOf, pointsOf}
-use Rattle.course.specs.Samples.{sampleCount, spanOf, spanAt, paramAt, frameOf, frameAt, ringAt, tagAt}
-use Rattle.skin.specs.Tube.{ordered, eight, ringPositions, ringNormals, ringTags, startNormal, endNormal, skinPositions, skinNormals, positionsOf, normalsOf, tagsOf}
+use Rattle.course.specs.Samples.{spanOf, spanAt, paramAt, frameOf, frameAt, ringAt}
+use Rattle.skin.specs.Tube.{ordered, eight, ringPositions, ringNormals, startNormal, endNormal, skinPositions, skinNormals}
 use Rattle.skin.proofs.Cases.{alike, words}
 
 -- the C-alphas and the oxygens

@@ -3,7 +3,7 @@ use vectors::Vec3;
 use vectors::get_vec;
 use vectors::put_vec;
 ghost use mathlib.Core.Path.{_≡_};
-ghost use Prim.Native.Nat.{ℕ, _+_, _*_, _-_, _<_, _≤_};
+ghost use Prim.Native.Nat.{_+_, _*_, _-_, _<_, _≤_};
 ghost use lib.ListN.{length};
 ghost use Rattle.buffers.specs.Put.{put};
 ghost use Rattle.skin.specs.Box.{lower, upper, onEach, boxOf};

@@ -3,8 +3,8 @@ use shape::Ring;
 use vectors::Vec3;
 use vectors::put_vec;
 ghost use mathlib.Core.Path.{_≡_};
-ghost use mathlib.Core.List.{List, [], _∷_, _++_};
-ghost use Prim.Native.Nat.{ℕ, _+_, _*_, _≤_};
+ghost use mathlib.Core.List.{[], _∷_, _++_};
+ghost use Prim.Native.Nat.{_+_, _*_, _≤_};
 ghost use lib.ListN.{length, replicate};
 ghost use Rattle.vectors.specs.Vec.{floats};
 ghost use Rattle.buffers.specs.Put.{put};
@@ -43,7 +43,9 @@ pub fn put_ring(
     tag: u32,
 )
     requires { ⌜ Room (now positions) (now normals) (now tags) (v + 8) ⌝ }
-    ensures { λ _. ⌜ Wrote (now (positions .entry)) (now (normals .entry)) (now (tags .entry)) v (eight (r .positions)) (eight (r .normals)) (replicate 8 tag) (now (positions .exit)) (now (normals .exit)) (now (tags .exit)) ⌝ }
+    ensures { λ _. ⌜ Wrote (now (positions .entry)) (now (normals .entry)) (now (tags .entry)) v
+        (eight (r .positions)) (eight (r .normals)) (replicate 8 tag)
+        (now (positions .exit)) (now (normals .exit)) (now (tags .exit)) ⌝ }
 {
     let p = r.positions;
     let q = r.normals;
@@ -82,7 +84,9 @@ pub fn put_capped(
     last: u32,
 )
     requires { ⌜ Room (now positions) (now normals) (now tags) (v + 9) ⌝ }
-    ensures { λ _. ⌜ Wrote (now (positions .entry)) (now (normals .entry)) (now (tags .entry)) v (eight (r .positions) ++ floats p) (eight (r .normals) ++ floats q) (replicate 8 tag ++ (last ∷ [])) (now (positions .exit)) (now (normals .exit)) (now (tags .exit)) ⌝ }
+    ensures { λ _. ⌜ Wrote (now (positions .entry)) (now (normals .entry)) (now (tags .entry)) v
+        (eight (r .positions) ++ floats p) (eight (r .normals) ++ floats q) (replicate 8 tag ++ (last ∷ []))
+        (now (positions .exit)) (now (normals .exit)) (now (tags .exit)) ⌝ }
 {
     let centre = v + 8;
     put_ring(positions, normals, tags, v, r, tag);

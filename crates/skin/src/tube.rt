@@ -12,11 +12,11 @@ use shape::section::spokes;
 use vectors::Vec3;
 use vectors::get_vec;
 ghost use mathlib.Core.Path.{_≡_};
-ghost use mathlib.Core.List.{List, [], _∷_, _++_};
-ghost use Prim.Native.Nat.{ℕ, _+_, _*_, _-_, _^_, _<_, _≤_};
+ghost use mathlib.Core.List.{[], _∷_, _++_};
+ghost use Prim.Native.Nat.{ℕ, _+_, _*_, _-_, _<_, _≤_};
 ghost use lib.ListN.{length, take, drop};
 ghost use Rattle.vectors.specs.Vec.{floats};
-ghost use Rattle.buffers.specs.Put.{put, upto};
+ghost use Rattle.buffers.specs.Put.{upto};
 ghost use Rattle.course.specs.Residues.{oxygenAt, guidesOf, pointsOf};
 ghost use Rattle.course.specs.Samples.{frameAt, tagAt};
 ghost use Rattle.skin.specs.Tube.{vertexCount, ringPositions, ringNormals, ringTags, startNormal, endNormal, skinPositions, skinNormals, positionsOf, normalsOf, tagsOf};
@@ -36,7 +36,11 @@ fn start_cap(
     spokes: [Spoke; 8],
 )
     requires { ⌜ Course (now points) (now guides) n first kind spokes × Room (now positions) (now normals) (now tags) (v + 9) ⌝ }
-    ensures { λ _. ⌜ Wrote (now (positions .entry)) (now (normals .entry)) (now (tags .entry)) v (ringPositions kind (now (points .entry)) (now (guides .entry)) n 0 ++ floats (frameAt (now (points .entry)) (now (guides .entry)) n 0 .position)) (ringNormals kind (now (points .entry)) (now (guides .entry)) n 0 ++ floats (startNormal (now (points .entry)) (now (guides .entry)) n)) (ringTags first n 0 ++ (tagAt first n 0 ∷ [])) (now (positions .exit)) (now (normals .exit)) (now (tags .exit)) ⌝ }
+    ensures { λ _. ⌜ Wrote (now (positions .entry)) (now (normals .entry)) (now (tags .entry)) v
+        (ringPositions kind (now (points .entry)) (now (guides .entry)) n 0 ++ floats (frameAt (now (points .entry)) (now (guides .entry)) n 0 .position))
+        (ringNormals kind (now (points .entry)) (now (guides .entry)) n 0 ++ floats (startNormal (now (points .entry)) (now (guides .entry)) n))
+        (ringTags first n 0 ++ (tagAt first n 0 ∷ []))
+        (now (positions .exit)) (now (normals .exit)) (now (tags .exit)) ⌝ }
 {
     let f = frame_at(points, guides, n, 0);
     let r = ring(f, kind, n, 0, spokes);
@@ -60,7 +64,11 @@ fn later_rings(
     spokes: [Spoke; 8],
 )
     requires { ⌜ Course (now points) (now guides) n first kind spokes × Room (now positions) (now normals) (now tags) (v + 8 * (8 * (n - 1) - 1)) ⌝ }
-    ensures { λ _. ⌜ Wrote (now (positions .entry)) (now (normals .entry)) (now (tags .entry)) v (upto (λ (s : ℕ). ringPositions kind (now (points .entry)) (now (guides .entry)) n (s + 1)) (8 * (n - 1) - 1)) (upto (λ (s : ℕ). ringNormals kind (now (points .entry)) (now (guides .entry)) n (s + 1)) (8 * (n - 1) - 1)) (upto (λ (s : ℕ). ringTags first n (s + 1)) (8 * (n - 1) - 1)) (now (positions .exit)) (now (normals .exit)) (now (tags .exit)) ⌝ }
+    ensures { λ _. ⌜ Wrote (now (positions .entry)) (now (normals .entry)) (now (tags .entry)) v
+        (upto (λ (s : ℕ). ringPositions kind (now (points .entry)) (now (guides .entry)) n (s + 1)) (8 * (n - 1) - 1))
+        (upto (λ (s : ℕ). ringNormals kind (now (points .entry)) (now (guides .entry)) n (s + 1)) (8 * (n - 1) - 1))
+        (upto (λ (s : ℕ). ringTags first n (s + 1)) (8 * (n - 1) - 1))
+        (now (positions .exit)) (now (normals .exit)) (now (tags .exit)) ⌝ }
 {
     let total = 8 * (n - 1) - 1;
     let mut s = 0usize;
@@ -97,7 +105,11 @@ fn end_cap(
     spokes: [Spoke; 8],
 )
     requires { ⌜ Course (now points) (now guides) n first kind spokes × Room (now positions) (now normals) (now tags) (v + 9) ⌝ }
-    ensures { λ _. ⌜ Wrote (now (positions .entry)) (now (normals .entry)) (now (tags .entry)) v (ringPositions kind (now (points .entry)) (now (guides .entry)) n (8 * (n - 1)) ++ floats (frameAt (now (points .entry)) (now (guides .entry)) n (8 * (n - 1)) .position)) (ringNormals kind (now (points .entry)) (now (guides .entry)) n (8 * (n - 1)) ++ floats (endNormal (now (points .entry)) n)) (ringTags first n (8 * (n - 1)) ++ ((first + (n - 1)) ∷ [])) (now (positions .exit)) (now (normals .exit)) (now (tags .exit)) ⌝ }
+    ensures { λ _. ⌜ Wrote (now (positions .entry)) (now (normals .entry)) (now (tags .entry)) v
+        (ringPositions kind (now (points .entry)) (now (guides .entry)) n (8 * (n - 1)) ++ floats (frameAt (now (points .entry)) (now (guides .entry)) n (8 * (n - 1)) .position))
+        (ringNormals kind (now (points .entry)) (now (guides .entry)) n (8 * (n - 1)) ++ floats (endNormal (now (points .entry)) n))
+        (ringTags first n (8 * (n - 1)) ++ ((first + (n - 1)) ∷ []))
+        (now (positions .exit)) (now (normals .exit)) (now (tags .exit)) ⌝ }
 {
     let s = 8 * (n - 1);
     let f = frame_at(points, guides, n, s);
@@ -123,7 +135,11 @@ fn skin(
     spokes: [Spoke; 8],
 )
     requires { ⌜ Course (now points) (now guides) n first kind spokes × Room (now positions) (now normals) (now tags) (v + vertexCount n) ⌝ }
-    ensures { λ _. ⌜ Wrote (now (positions .entry)) (now (normals .entry)) (now (tags .entry)) v (skinPositions kind (now (points .entry)) (now (guides .entry)) n) (skinNormals kind (now (points .entry)) (now (guides .entry)) n) (tagsOf first n) (now (positions .exit)) (now (normals .exit)) (now (tags .exit)) ⌝ }
+    ensures { λ _. ⌜ Wrote (now (positions .entry)) (now (normals .entry)) (now (tags .entry)) v
+        (skinPositions kind (now (points .entry)) (now (guides .entry)) n)
+        (skinNormals kind (now (points .entry)) (now (guides .entry)) n)
+        (tagsOf first n)
+        (now (positions .exit)) (now (normals .exit)) (now (tags .exit)) ⌝ }
 {
     let later = v + 9;
     let end = later + 8 * (8 * (n - 1) - 1);
@@ -179,7 +195,13 @@ pub fn tube_vertices(
     first: u32,
 )
     requires { ⌜ Residues (now flags) (now course) n first × Room (now positions) (now normals) (now tags) (v + vertexCount n) ⌝ }
-    ensures { λ _. ⌜ Wrote (now (positions .entry)) (now (normals .entry)) (now (tags .entry)) v (positionsOf kind (take (3 * n) (now (course .entry))) (oxygenAt (now (flags .entry)) (drop (3 * n) (now (course .entry)))) n) (normalsOf kind (take (3 * n) (now (course .entry))) (oxygenAt (now (flags .entry)) (drop (3 * n) (now (course .entry)))) n) (tagsOf first n) (now (positions .exit)) (now (normals .exit)) (now (tags .exit)) × (now (course .exit) ≡ pointsOf kind (take (3 * n) (now (course .entry))) n ++ guidesOf kind (take (3 * n) (now (course .entry))) (oxygenAt (now (flags .entry)) (drop (3 * n) (now (course .entry)))) n) ⌝ }
+    ensures { λ _. ⌜ Wrote (now (positions .entry)) (now (normals .entry)) (now (tags .entry)) v
+        (positionsOf kind (take (3 * n) (now (course .entry))) (oxygenAt (now (flags .entry)) (drop (3 * n) (now (course .entry)))) n)
+        (normalsOf kind (take (3 * n) (now (course .entry))) (oxygenAt (now (flags .entry)) (drop (3 * n) (now (course .entry)))) n)
+        (tagsOf first n)
+        (now (positions .exit)) (now (normals .exit)) (now (tags .exit))
+        × (now (course .exit) ≡ pointsOf kind (take (3 * n) (now (course .entry))) n
+        ++ guidesOf kind (take (3 * n) (now (course .entry))) (oxygenAt (now (flags .entry)) (drop (3 * n) (now (course .entry)))) n) ⌝ }
 {
     let m = 3 * n;
     let spokes = spokes(half_sizes(kind));

@@ -1,6 +1,6 @@
 // Vectors of three f32 by value, and flat lists of them.
 ghost use mathlib.Core.Path.{_≡_};
-ghost use Prim.Native.Nat.{ℕ, _+_, _*_, _≤_};
+ghost use Prim.Native.Nat.{_+_, _*_, _≤_};
 ghost use lib.ListN.{length};
 ghost use Rattle.vectors.specs.Vec.{vadd, vsub, vscale, vdot, vcross, vlength, normalised, floats, vecAt};
 ghost use Rattle.buffers.specs.Put.{put};

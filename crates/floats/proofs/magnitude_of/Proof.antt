@@ -1,5 +1,4 @@
 use mathlib.Core.Path.{sym, subst, _∙_}
-use mathlib.Core.Bool.{true, false}
 use lib.Dec.{T}
 use lib.Ieee.{binary32, fits, ofBits}
 use Rattle.floats.proofs.Signs.{zero-is, below-zero, at-zero, above-zero}

@@ -1,8 +1,4 @@
 use Rattle.course.specs.Residues.{settled}
-use mathlib.Core.Path.{ap, _∙_}
-use native.Mathlib.Omega.{arith}
-use lib.ListN.{length}
-use Rattle.course.proofs.Laws.{length-same}
 use borrow.Author.Needs.{needs}
 use Rattle.course.proofs.residues.average_guides.Statement.{statement}
 use Rattle.course.proofs.residues.average_guides.Tie as tie

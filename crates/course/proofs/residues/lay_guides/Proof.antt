@@ -1,7 +1,4 @@
 use denote.Ref.{now}
-use Prim.Native.Nat.{_*_}
-use lib.ListN.{take, drop}
-use Rattle.course.specs.Residues.{oxygenAt, guidesOf}
 use Rattle.course.proofs.Laws.{laid-guides}
 use borrow.Author.Needs.{needs}
 use Rattle.course.proofs.residues.lay_guides.Statement.{statement}

@@ -1,4 +1,4 @@
-use mathlib.Core.Path.{ap, _∙_, sym}
+use mathlib.Core.Path.{_∙_, sym}
 use mathlib.Core.Bool.{true, false}
 use native.Mathlib.Omega.{arith}
 use lib.Dec.{le→leb}

@@ -1,6 +1,5 @@
-use mathlib.Core.Path.{sym, subst, _∙_}
-use Prim.Native.Nat.{ℕ, _+_, _*_, _%_, _^_, _≤_, _<_}
-use native.Mathlib.Nat.{lt-of-lt-of-le, le-of-eq, le-trans}
+use mathlib.Core.Path.{subst}
+use Prim.Native.Nat.{ℕ}
 use native.Mathlib.Omega.{arith}
 use Rattle.floats.proofs.Squares.{Near}
 use Rattle.floats.proofs.RootBits.{scaled-is, scaled-lt, scaled-ge, positive-is}

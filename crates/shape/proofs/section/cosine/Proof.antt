@@ -1,7 +1,5 @@
 use mathlib.Core.Path.{refl}
-use mathlib.Core.Bool.{Bool, not}
-use Prim.Native.Nat.{ℕ}
-use lib.Ieee.{binary32, nanBits}
+use lib.Ieee.{nanBits}
 use Rattle.shape.specs.Ring.{cosBits, cosAt}
 use Rattle.shape.proofs.Table.{at, number}
 use borrow.Author.Needs.{needs}

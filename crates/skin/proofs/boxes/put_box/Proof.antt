@@ -1,8 +1,7 @@
 use borrow.Author.Needs.{needs}
 use mathlib.Core.Path.{_≡_, refl}
-use Prim.Native.Nat.{ℕ, _+_, _-_, _≤_}
+use Prim.Native.Nat.{_+_, _-_, _≤_}
 use native.Mathlib.Omega.{arith}
-use lib.ListN.{length}
 use Rattle.buffers.proofs.Puts.{next, kept}
 use Rattle.skin.specs.Box.{lower, upper, over, boxOf}
 use Rattle.skin.proofs.Laws.{over-more}

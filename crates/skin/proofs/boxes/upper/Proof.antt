@@ -1,4 +1,3 @@
-use borrow.Author.Needs.{needs}
 use Rattle.skin.proofs.boxes.upper.Statement.{statement}
 use Rattle.skin.proofs.boxes.upper.Tie as tie
 
