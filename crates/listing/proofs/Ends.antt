@@ -1,0 +1,90 @@
+-- What is covered: by a segment of two frames or more, hidden or not, and only where there is a C-alpha. Assumes nothing.
+use Prim.Native.Nat.{ℕ, zero, suc, _+_, _<_, _≤_}
+use mathlib.Core.Bool.{Bool, true, false, cond, not, _&&_, _||_}
+use mathlib.Core.Path.{_≡_, refl, sym, _∙_, ap, subst}
+use mathlib.Core.Logic.{⊎-elim}
+use native.Mathlib.Nat.{le-of-suc-le-suc, eq-or-lt-of-le}
+use native.Mathlib.Omega.{arith}
+use lib.ListN.{length, getD}
+use lib.Dec.{eqb, ltb}
+use borrow.Author.Tests.{ltb-false, le-ltb, ne-eqb, not-true}
+use Rattle.job.specs.Search.{orElse, first, last}
+use Rattle.tables.specs.Job.{Job, gives, wants, inside}
+use Rattle.tables.specs.declared.Range.{Range}
+use Rattle.tables.specs.declared.Want.the-variants.{Alpha, SegmentAlpha}
+use Rattle.tubes.specs.Tubes.{given, range, coilAlpha, segmentAlpha, frames, counts, any, covered}
+use Rattle.segments.proofs.Laws.{given-above}
+use Rattle.listing.proofs.Tubes.{and-left, and-right}
+
+-- a number below n that the test takes
+abbrev pub Some : (ℕ → Bool) → ℕ → Type 0
+Some t n = (i : ℕ) × ((i < n) × (t i ≡ true))
+
+wider : (t : ℕ → Bool) (n : ℕ) → Some t n → Some t (suc n)
+wider t n s = (s .0, (omega (arith, s .1 .0), s .1 .1))
+
+pub any-some : (t : ℕ → Bool) (n : ℕ) → any t n ≡ true → Some t n
+unfolding any
+any-some t zero e = let z : _≡_ {A = ℕ} 0 1 = cc in absurd (omega arith)
+any-some t (suc n) e = go (any-some t n) (any t n) refl e
+  where
+    go : (any t n ≡ true → Some t n) → (b : Bool) → any t n ≡ b → (b || t n) ≡ true → Some t (suc n)
+    go all true q h = wider t n (all q)
+    go all false q h = (n, (omega arith, h))
+
+pub some-any : (t : ℕ → Bool) (n i : ℕ) → i < n → t i ≡ true → any t n ≡ true
+unfolding any
+some-any t zero i l e = absurd (omega arith)
+some-any t (suc n) i l e = ⊎-elim (λ q. rw (← q, e) (or-true (any t i))) (λ m. rw (some-any t n i m e)) (eq-or-lt-of-le (le-of-suc-le-suc l))
+  where
+    or-true : (b : Bool) → (b || true) ≡ true
+    or-true true = refl
+    or-true false = refl
+
+last-some : (t : ℕ → Bool) (n : ℕ) → 0 < last t n → Some t n
+unfolding last
+last-some t zero h = absurd (omega arith)
+last-some t (suc n) h = go (last-some t n) (t n) refl h
+  where
+    go : (0 < last t n → Some t n) → (b : Bool) → t n ≡ b → 0 < cond b (suc n) (last t n) → Some t (suc n)
+    go all true q h = (n, (omega arith, q))
+    go all false q h = wider t n (all h)
+
+some-first : (t : ℕ → Bool) (n i : ℕ) → i < n → t i ≡ true → 0 < first t n
+unfolding first
+some-first t zero i l e = absurd (omega arith)
+some-first t (suc n) i l e = ⊎-elim (λ q. rw (← q, e) (at (first t i))) (λ m. earlier (first t n) (some-first t n i m e)) (eq-or-lt-of-le (le-of-suc-le-suc l))
+  where
+    at : (a : ℕ) → 0 < orElse a (suc i)
+    at zero = omega arith
+    at (suc a) = omega arith
+
+    earlier : (a : ℕ) → 0 < a → 0 < orElse a (cond (t n) (suc n) zero)
+    earlier zero h = absurd (omega arith)
+    earlier (suc a) h = h
+
+-- a segment's C-alpha is a C-alpha
+alpha-of : (J : Job) (g : Range) (r a : ℕ) → gives J (SegmentAlpha g) r a ≡ true → gives J Alpha r a ≡ true
+unfolding gives wants
+alpha-of J g r a e =
+    let x = and-left (eqb (J .residue a) r) _ e in
+    let y = and-left (eqb (J .role a) 1) _ (and-right (eqb (J .residue a) r) _ e) in
+    rw (x, y)
+
+pub segment-placed : (J : Job) (i r : ℕ) → 0 < segmentAlpha J i r → 0 < coilAlpha J r
+unfolding segmentAlpha coilAlpha
+segment-placed J i r h =
+    let a = last-some (gives J (SegmentAlpha (range J i)) r) (J .atoms) h in
+    some-first (gives J Alpha r) (J .atoms) (a .0) (a .1 .0) (alpha-of J (range J i) r (a .0) (a .1 .1))
+
+-- the segment that covers a residue
+pub covered-some : (J : Job) (r : ℕ) → covered J r ≡ true → (i : ℕ) × ((i < J .segments) × ((2 ≤ length (frames J i)) × (0 < segmentAlpha J i r)))
+unfolding covered counts
+covered-some J r e =
+    let s = any-some _ (J .segments) e in
+    (s .0, (s .1 .0, (ltb-false _ _ (not-true _ (and-left _ _ (s .1 .1))), given-above _ (and-right (counts J (s .0)) _ (s .1 .1)))))
+
+pub covered-any : (J : Job) (r i : ℕ) → i < J .segments → 2 ≤ length (frames J i) → 0 < segmentAlpha J i r → covered J r ≡ true
+unfolding covered counts
+covered-any J r i l two h =
+    some-any _ (J .segments) i l (rw (le-ltb (length (frames J i)) 2 two, ne-eqb (segmentAlpha J i r) 0 (λ e. omega arith)))

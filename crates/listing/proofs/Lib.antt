@@ -1,0 +1,6 @@
+pub mod Theorems
+pub mod Linked
+pub mod Tubes
+pub mod Sums
+pub mod Ends
+pub mod Same

@@ -1,0 +1,97 @@
+-- What is proved of 01's list of tubes, `tubes J far`: of any job J, and any test `far` of the step between two atoms. Assumes nothing.
+use Prim.Native.Nat.{ℕ, _+_, _*_, _<_, _≤_}
+use mathlib.Core.Bool.{Bool, true, false, cond, _&&_}
+use mathlib.Core.List.{List, [], List·Memᴰ}
+use mathlib.Core.Path.{_≡_, refl}
+use native.Mathlib.Nat.{mul-le-mul}
+use native.Mathlib.Omega.{arith}
+use lib.ListN.{length, getD}
+use lib.Dec.{ltb}
+use borrow.Author.Tests.{lt-ltb}
+use Rattle.tables.specs.Job.{Job}
+use Rattle.tubes.specs.Tubes.{Tube, given, shown, coilAlpha, segmentAlpha, frames, counts, covered, segmentTubes, coilTubes, tubes}
+use Rattle.mesh.specs.Mesh.{sizeOf, vertexSum, triangleSum}
+use Rattle.listing.specs.Listing.{Proper, frameSum, SameCuts}
+use Rattle.listing.proofs.Tubes.{Every, every-map, every-member, tubes-proper}
+use Rattle.listing.proofs.Sums.{segment-sum, coils-sum, tubes-frames, vertices-exact, triangles-exact, tubes-few}
+use Rattle.listing.proofs.Ends.{covered-any, segment-placed, covered-some}
+use Rattle.listing.proofs.Same.{all-same}
+
+-- ---- each tube
+
+module _ (J : Job) (far : ℕ → ℕ → Bool) (u : Tube) (m : List·Memᴰ u (tubes J far)) where
+  -- consecutive residues of one chain, two at least, each a residue of the job with a C-alpha; no step too long; a segment's kind, or 0
+  pub each-tube : Proper J far u
+  each-tube = every-member (Proper J far) (tubes J far) (tubes-proper J far) u m
+
+  -- 'n is .. 2 to 16,384'
+  pub tube-size : J .residues ≤ 16384 → (2 ≤ sizeOf u) × (sizeOf u ≤ 16384)
+  tube-size h = (each-tube .two, omega (arith, each-tube .most))
+
+-- ---- the sums
+
+module _ (J : Job) (far : ℕ → ℕ → Bool) where
+  -- no frame stands twice in the tubes of one segment
+  pub segment-frames : (i : ℕ) → frameSum (segmentTubes J far i) ≤ J .residues
+  segment-frames = segment-sum J far
+
+  -- a run of the coils gains two neighbours at most
+  pub coil-frames : frameSum (coilTubes J far) ≤ 3 * J .residues
+  coil-frames = coils-sum J far
+
+  all-two : Every (λ u. 2 ≤ sizeOf u) (tubes J far)
+  all-two = every-map _ _ (λ u p. p .two) (tubes J far) (tubes-proper J far)
+
+  -- V and T of F frames in K tubes: V = 64F - 54K, T = 128F - 112K
+  pub vertices-are : vertexSum (tubes J far) + 54 * length (tubes J far) ≡ 64 * frameSum (tubes J far)
+  vertices-are = vertices-exact (tubes J far) all-two
+
+  pub triangles-are : triangleSum (tubes J far) + 112 * length (tubes J far) ≡ 128 * frameSum (tubes J far)
+  triangles-are = triangles-exact (tubes J far) all-two
+
+  -- within the limits of a job the sums stay far below 2^64: K at most 2^30, V below 2^37, T = 2V - 4K
+  pub sums-small : J .residues ≤ 16384 → J .segments ≤ 65535
+      → (length (tubes J far) ≤ 1073741824) × ((vertexSum (tubes J far) < 137438953472) × (triangleSum (tubes J far) + 4 * length (tubes J far) ≡ 2 * vertexSum (tubes J far)))
+  sums-small r s =
+      let f = tubes-frames J far in
+      let p : J .segments * J .residues ≤ 65535 * 16384 = mul-le-mul s r in
+      let k = tubes-few (tubes J far) all-two in
+      let v = vertices-are in
+      let t = triangles-are in
+      (omega arith, (omega arith, omega arith))
+
+-- ---- what is covered
+
+module _ (J : Job) (r : ℕ) where
+  -- 'A segment with fewer than two frames is skipped and covers nothing': what covers r is a segment of two frames or more that has a C-alpha of r
+  pub covered-by : covered J r ≡ true → (i : ℕ) × ((i < J .segments) × ((2 ≤ length (frames J i)) × (0 < segmentAlpha J i r)))
+  covered-by = covered-some J r
+
+  -- 'Otherwise all its frames become covered, even if hidden': nothing is asked of its chain
+  pub covers : (i : ℕ) → i < J .segments → 2 ≤ length (frames J i) → 0 < segmentAlpha J i r → covered J r ≡ true
+  covers i l two h = covered-any J r i l two h
+
+  -- 02 §10: 'a covered neighbour with no C-alpha position .. no accepted job has one'
+  pub covered-placed : covered J r ≡ true → 0 < coilAlpha J r
+  covered-placed e = let s = covered-by e in segment-placed J (s .0) r (s .1 .1 .1)
+
+and-false : (b : Bool) → (b && false) ≡ false
+and-false true = refl
+and-false false = refl
+
+module _ (J : Job) (far : ℕ → ℕ → Bool) (i : ℕ) where
+  -- 'it is hidden when its first frame's chain is': a hidden segment gives no tube
+  pub hidden-none : shown J (getD (frames J i) 0 0) ≡ false → segmentTubes J far i ≡ []
+  unfolding segmentTubes
+  hidden-none e = rw (e, and-false (counts J i))
+
+  -- 'A segment with fewer than two frames is skipped'
+  pub short-none : length (frames J i) < 2 → segmentTubes J far i ≡ []
+  unfolding segmentTubes counts
+  short-none h = rw (lt-ltb (length (frames J i)) 2 h)
+
+-- ---- the coordinates
+
+-- 02 §13: 'must tell only the cuts'
+pub tubes-same : (J : Job) (far far' : ℕ → ℕ → Bool) → SameCuts J far far' → tubes J far ≡ tubes J far'
+tubes-same = all-same

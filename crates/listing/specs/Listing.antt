@@ -1,0 +1,61 @@
+-- What the theorems about a job's list of tubes say, in words of their own.
+use Prim.Native.Nat.{ℕ, zero, suc, _+_, _<_, _≤_}
+use mathlib.Core.List.{List, [], _∷_, map}
+use mathlib.Core.Bool.{Bool, false}
+use mathlib.Core.Path.{_≡_}
+use lib.ListN.{length, getD}
+use Rattle.tables.specs.Job.{Job, chainOf}
+use Rattle.tubes.specs.Frames.{chosen}
+use Rattle.tubes.specs.Lists.{Each, Consecutive}
+use Rattle.tubes.specs.Pieces.{pieces, apart}
+use Rattle.tubes.specs.Tubes.{Tube, alphaOf, frames, gap, loose, joins, extended}
+use Rattle.tubes.specs.declared.Source.{Source}
+use Rattle.tubes.specs.declared.Source.the-variants.{Coils, Segment}
+use Rattle.mesh.specs.Mesh.{firstOf, sizeOf}
+
+-- P of every two neighbours of a list
+abbrev pub Neighbours : (ℕ → ℕ → Type 0) → List ℕ → Type 0
+Neighbours P l = (i : ℕ) → suc i < length l → P (getD l i 0) (getD l (suc i) 0)
+
+-- where a tube comes from: a segment of the job, with that segment's kind, or the coils, of kind 0
+abbrev pub Known : Job → Source → ℕ → Type 0
+Known J Coils kind = kind ≡ 0
+Known J (Segment i) kind = (i < J .segments) × (kind ≡ J .kind i)
+
+-- what every tube of a job's list is
+pub record Proper (J : Job) (far : ℕ → ℕ → Bool) (u : Tube) : Type 0 where
+  pub known : Known J (u .source) (u .kind)
+  pub two : 2 ≤ sizeOf u
+  pub most : sizeOf u ≤ J .residues
+  pub below : Each (λ r. r < J .residues) (u .residues)
+  pub consecutive : Consecutive (u .residues)
+  pub chain : Each (λ r. chainOf J r ≡ chainOf J (firstOf u)) (u .residues)
+  pub placed : Each (λ r. 0 < alphaOf J (u .source) r) (u .residues)
+  pub near : Neighbours (λ x y. gap J far (u .source) x y ≡ false) (u .residues)
+
+-- 'Visible segments come in job order .. Then coils': the place of a tube's source in that order
+abbrev pub turnIn : Job → Source → ℕ
+turnIn J Coils = J .segments
+turnIn J (Segment i) = i
+
+abbrev pub turnOf : Job → Tube → ℕ
+turnOf J u = turnIn J (u .source)
+
+-- the frames of all tubes of a list
+unfoldable pub frameSum : List Tube → ℕ
+frameSum [] = 0
+frameSum (u ∷ us) = sizeOf u + frameSum us
+
+-- 'cut the same way into runs; each run gains its neighbour before and after': the coils' runs, extended
+unfoldable pub coilRuns : Job → List (List ℕ)
+coilRuns J = map (extended (joins J)) (pieces (apart (chainOf J)) (chosen (loose J) (J .residues)))
+
+-- P of every list of a list
+abbrev pub EachList : (List ℕ → Type 0) → List (List ℕ) → Type 0
+EachList P [] = Unit
+EachList P (l ∷ ls) = P l × EachList P ls
+
+-- two tests of a step agree between neighbouring frames 'in every segment and extended coil run' (02 §13)
+pub record SameCuts (J : Job) (far far' : ℕ → ℕ → Bool) : Type 0 where
+  pub segments : (i : ℕ) → i < J .segments → Neighbours (λ x y. gap J far (Segment i) x y ≡ gap J far' (Segment i) x y) (frames J i)
+  pub coils : EachList (Neighbours (λ x y. gap J far Coils x y ≡ gap J far' Coils x y)) (coilRuns J)
