@@ -1,4 +1,5 @@
 pub mod Theorems
+pub mod Cases
 pub mod Linked
 pub mod Tubes
 pub mod Sums
