@@ -5,3 +5,4 @@ pub mod Tubes
 pub mod Sums
 pub mod Ends
 pub mod Same
+pub mod Order

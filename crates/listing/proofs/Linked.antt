@@ -43,6 +43,10 @@ linked-from P S (x ∷ y ∷ ys) a b =
 pub linked-weak : (P : ℕ → Type 0) (S U : ℕ → ℕ → Type 0) → ((x y : ℕ) → S x y → U x y) → (l : List ℕ) → Linked P S l → Linked P U l
 linked-weak P S U f l a = linked-from P U l (linked-each P S l a) (λ i h. f _ _ (linked-neighbours P S l a i h))
 
+pub linked-map : (P Q : ℕ → Type 0) (S : ℕ → ℕ → Type 0) → ((x : ℕ) → P x → Q x) → (l : List ℕ) → Linked P S l → Linked Q S l
+linked-map P Q S f [] a = tt
+linked-map P Q S f (x ∷ xs) a = (f x (a .0), (a .1 .0, linked-map P Q S f xs (a .1 .1)))
+
 -- ---- cutting
 
 -- S between x and the first number of the first piece
@@ -88,40 +92,44 @@ pieces-linked P S cut (x ∷ xs) a = go (pieces cut xs) (pieces-next S cut x xs 
 
 -- ---- a neighbour more
 
-abbrev lastOf : ℕ → List ℕ → ℕ
+abbrev pub lastOf : ℕ → List ℕ → ℕ
 lastOf x [] = x
 lastOf x (y ∷ ys) = lastOf y ys
 
-last-is : (x : ℕ) (xs : List ℕ) → getD (x ∷ xs) (length (x ∷ xs) - 1) 0 ≡ lastOf x xs
+pub last-is : (x : ℕ) (xs : List ℕ) → getD (x ∷ xs) (length (x ∷ xs) - 1) 0 ≡ lastOf x xs
 last-is x xs = let z : length (x ∷ xs) - 1 ≡ length xs = omega arith in rw z (go x xs)
   where
     go : (x : ℕ) (xs : List ℕ) → getD (x ∷ xs) (length xs) 0 ≡ lastOf x xs
     go x [] = refl
     go x (y ∷ ys) = go y ys
 
+linked-last : (P : ℕ → Type 0) (S : ℕ → ℕ → Type 0) (x : ℕ) (xs : List ℕ) → Linked P S (x ∷ xs) → P (lastOf x xs)
+linked-last P S x [] a = a .0
+linked-last P S x (y ∷ ys) a = linked-last P S y ys (a .1 .1)
+
 linked-more : (P : ℕ → Type 0) (S : ℕ → ℕ → Type 0) (x : ℕ) (xs : List ℕ) (v : ℕ) → Linked P S (x ∷ xs) → P v → S (lastOf x xs) v → Linked P S ((x ∷ xs) ++ (v ∷ []))
 linked-more P S x [] v a p s = (a .0, (s, (p, (tt, tt))))
 linked-more P S x (y ∷ ys) v a p s = (a .0, (a .1 .0, linked-more P S y ys v (a .1 .1) p s))
 
--- the neighbour before, where it joins
-linked-led : (P : ℕ → Type 0) (S : ℕ → ℕ → Type 0) (join : ℕ → ℕ → Bool) → ((r : ℕ) → join r (suc r) ≡ true → P r × S r (suc r))
-    → (x : ℕ) (l : List ℕ) → Linked P S (x ∷ l) → Linked P S (cond (leads join x) ((x - 1) ∷ []) [] ++ (x ∷ l))
-linked-led P S join lead zero l a = a
-linked-led P S join lead (suc r) l a = go (join r (suc r)) refl
-  where
-    go : (b : Bool) → join r (suc r) ≡ b → Linked P S (cond b ((suc r - 1) ∷ []) [] ++ (suc r ∷ l))
-    go true e = let z : suc r - 1 ≡ r = omega arith in rw z (lead r e .0, (lead r e .1, a))
-    go false e = a
+-- a run with the neighbours that join it: Q of the run, P of the run and of its neighbours
+module _ (Q P : ℕ → Type 0) (S : ℕ → ℕ → Type 0) (join : ℕ → ℕ → Bool) (weak : (x : ℕ) → Q x → P x)
+    (lead : (r : ℕ) → join r (suc r) ≡ true → Q (suc r) → P r × S r (suc r)) (tail : (z : ℕ) → join (z + 1) z ≡ true → Q z → P (z + 1) × S z (z + 1)) where
+  led : (x : ℕ) (l : List ℕ) → Q x → Linked P S (x ∷ l) → Linked P S (cond (leads join x) ((x - 1) ∷ []) [] ++ (x ∷ l))
+  led zero l q a = a
+  led (suc r) l q a = go (join r (suc r)) refl
+    where
+      go : (b : Bool) → join r (suc r) ≡ b → Linked P S (cond b ((suc r - 1) ∷ []) [] ++ (suc r ∷ l))
+      go true e = let z : suc r - 1 ≡ r = omega arith in rw z (lead r e q .0, (lead r e q .1, a))
+      go false e = a
 
--- a run with the neighbours that join it
-pub extended-linked : (P : ℕ → Type 0) (S : ℕ → ℕ → Type 0) (join : ℕ → ℕ → Bool)
-    → ((r : ℕ) → join r (suc r) ≡ true → P r × S r (suc r)) → ((z : ℕ) → join (z + 1) z ≡ true → P (z + 1) × S z (z + 1))
-    → (run : List ℕ) → 1 ≤ length run → Linked P S run → Linked P S (extended join run)
-unfolding extended
-extended-linked P S join lead tail [] h a = absurd (omega arith)
-extended-linked P S join lead tail (x ∷ xs) h a =
-    rw (last-is x xs, append-assoc) (linked-led P S join lead x _ (body (join (lastOf x xs + 1) (lastOf x xs)) refl))
-  where
-    body : (b : Bool) → join (lastOf x xs + 1) (lastOf x xs) ≡ b → Linked P S ((x ∷ xs) ++ cond b ((lastOf x xs + 1) ∷ []) [])
-    body true e = linked-more P S x xs (lastOf x xs + 1) a (tail (lastOf x xs) e .0) (tail (lastOf x xs) e .1)
-    body false e = subst (Linked P S) (sym (append-nil (x ∷ xs))) a
+  pub extended-linked : (run : List ℕ) → 1 ≤ length run → Linked Q S run → Linked P S (extended join run)
+  unfolding extended
+  extended-linked [] h a = absurd (omega arith)
+  extended-linked (x ∷ xs) h a = rw (last-is x xs, append-assoc) (led x _ (a .0) (body (join (lastOf x xs + 1) (lastOf x xs)) refl))
+    where
+      b : Linked P S (x ∷ xs)
+      b = linked-map Q P S weak (x ∷ xs) a
+
+      body : (c : Bool) → join (lastOf x xs + 1) (lastOf x xs) ≡ c → Linked P S ((x ∷ xs) ++ cond c ((lastOf x xs + 1) ∷ []) [])
+      body true e = let t = tail (lastOf x xs) e (linked-last Q S x xs a) in linked-more P S x xs (lastOf x xs + 1) b (t .0) (t .1)
+      body false e = subst (Linked P S) (sym (append-nil (x ∷ xs))) b

@@ -16,9 +16,9 @@ use Rattle.tubes.specs.declared.Source.the-variants.{Coils, Segment}
 use Rattle.tubes.proofs.Laws.{chosen-length}
 use Rattle.coils.proofs.Laws.{extended-few}
 use Rattle.mesh.specs.Mesh.{sizeOf, vertexCount, triangleCount, vertexSum, triangleSum}
-use Rattle.listing.specs.Listing.{Proper, frameSum, EachList}
+use Rattle.listing.specs.Listing.{Every, frameSum, EachList}
 use Rattle.listing.proofs.Linked.{linked-from, pieces-linked}
-use Rattle.listing.proofs.Tubes.{Every, each-map}
+use Rattle.listing.proofs.Tubes.{each-map}
 
 -- ---- frames
 

@@ -11,8 +11,9 @@ use borrow.Author.Tests.{lt-ltb}
 use Rattle.tables.specs.Job.{Job}
 use Rattle.tubes.specs.Tubes.{Tube, given, shown, coilAlpha, segmentAlpha, frames, counts, covered, segmentTubes, coilTubes, tubes}
 use Rattle.mesh.specs.Mesh.{sizeOf, vertexSum, triangleSum}
-use Rattle.listing.specs.Listing.{Proper, frameSum, SameCuts}
-use Rattle.listing.proofs.Tubes.{Every, every-map, every-member, tubes-proper}
+use Rattle.listing.specs.Listing.{Proper, Before, Every, InOrder, frameSum, SameCuts}
+use Rattle.listing.proofs.Tubes.{every-map, every-member, tubes-proper}
+use Rattle.listing.proofs.Order.{all-order, all-once}
 use Rattle.listing.proofs.Sums.{segment-sum, coils-sum, tubes-frames, vertices-exact, triangles-exact, tubes-few}
 use Rattle.listing.proofs.Ends.{covered-any, segment-placed, covered-some}
 use Rattle.listing.proofs.Same.{all-same}
@@ -27,6 +28,17 @@ module _ (J : Job) (far : ℕ → ℕ → Bool) (u : Tube) (m : List·Memᴰ u (
   -- 'n is .. 2 to 16,384'
   pub tube-size : J .residues ≤ 16384 → (2 ≤ sizeOf u) × (sizeOf u ≤ 16384)
   tube-size h = (each-tube .two, omega (arith, each-tube .most))
+
+-- ---- the order
+
+module _ (J : Job) (far : ℕ → ℕ → Bool) where
+  -- 'Visible segments come in job order .. Then coils'; the tubes of one segment, and the coils, by their first residues
+  pub tubes-in-order : InOrder (Before J) (tubes J far)
+  tubes-in-order = all-order J far
+
+  -- no tube stands twice
+  pub tubes-once : InOrder (λ u v. u ≡ v → ⊥) (tubes J far)
+  tubes-once = all-once J far
 
 -- ---- the sums
 

@@ -19,14 +19,10 @@ use Rattle.tubes.specs.declared.Source.the-variants.{Coils, Segment}
 use Rattle.tubes.proofs.Laws.{Uncut, uncut-consecutive, uncut-chain, chosen-below}
 use Rattle.segments.proofs.Laws.{chosen-true, given-above}
 use Rattle.mesh.specs.Mesh.{firstOf, sizeOf}
-use Rattle.listing.specs.Listing.{Neighbours, Known, Proper, EachList}
+use Rattle.listing.specs.Listing.{Neighbours, Known, Proper, EachList, Every}
 use Rattle.listing.proofs.Linked.{Linked, linked-each, linked-neighbours, linked-from, linked-weak, pieces-linked, extended-linked}
 
 -- ---- P of every tube of a list
-
-abbrev pub Every : (Tube → Type 0) → List Tube → Type 0
-Every P [] = Unit
-Every P (u ∷ us) = P u × Every P us
 
 pub every-join : (P : Tube → Type 0) (us vs : List Tube) → Every P us → Every P vs → Every P (us ++ vs)
 every-join P [] vs a b = b
@@ -138,9 +134,9 @@ module _ (J : Job) where
   coil-runs : (rs : List (List ℕ)) → EachList (λ l. (1 ≤ length l) × Linked (Frame J Coils) (Together J) l) rs → EachList (Linked (Frame J Coils) (Together J)) (map (extended (joins J)) rs)
   coil-runs [] a = tt
   coil-runs (r ∷ rs) a = (
-    extended-linked (Frame J Coils) (Together J) (joins J)
-        (λ x e. let b = joins-frame x (suc x) e in (b .0, together J x (suc x) (omega arith) (sym (b .1))))
-        (λ z e. let b = joins-frame (z + 1) z e in (b .0, together J z (z + 1) refl (b .1)))
+    extended-linked (Frame J Coils) (Frame J Coils) (Together J) (joins J) (λ x f. f)
+        (λ x e f. let b = joins-frame x (suc x) e in (b .0, together J x (suc x) (omega arith) (sym (b .1))))
+        (λ z e f. let b = joins-frame (z + 1) z e in (b .0, together J z (z + 1) refl (b .1)))
         r (a .0 .0) (a .0 .1),
     coil-runs rs (a .1),
   )

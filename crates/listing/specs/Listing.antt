@@ -3,6 +3,7 @@ use Prim.Native.Nat.{ℕ, zero, suc, _+_, _<_, _≤_}
 use mathlib.Core.List.{List, [], _∷_, map}
 use mathlib.Core.Bool.{Bool, false}
 use mathlib.Core.Path.{_≡_}
+use mathlib.Core.Logic.{_⊎_}
 use lib.ListN.{length, getD}
 use Rattle.tables.specs.Job.{Job, chainOf}
 use Rattle.tubes.specs.Frames.{chosen}
@@ -40,6 +41,20 @@ turnIn J (Segment i) = i
 
 abbrev pub turnOf : Job → Tube → ℕ
 turnOf J u = turnIn J (u .source)
+
+-- u stands before v: its source comes first, or both have one source and u's first residue comes first
+abbrev pub Before : Job → Tube → Tube → Type 0
+Before J u v = (turnOf J u < turnOf J v) ⊎ ((u .source ≡ v .source) × (firstOf u < firstOf v))
+
+-- P of every tube of a list
+abbrev pub Every : (Tube → Type 0) → List Tube → Type 0
+Every P [] = Unit
+Every P (u ∷ us) = P u × Every P us
+
+-- each tube of a list stands so to every later one
+abbrev pub InOrder : (Tube → Tube → Type 0) → List Tube → Type 0
+InOrder B [] = Unit
+InOrder B (u ∷ us) = Every (B u) us × InOrder B us
 
 -- the frames of all tubes of a list
 unfoldable pub frameSum : List Tube → ℕ
