@@ -2,16 +2,16 @@
 use mathlib.Core.Path.{_≡_, refl, sym, ap, _∙_, subst}
 use mathlib.Core.Logic.{_⊎_, inl, inr}
 use Prim.Native.Nat.{ℕ, zero, suc, _+_, _-_, _*_, _/_, _%_, _^_, _≤_, _<_, min}
-use native.Mathlib.Nat.{le-trans, le-of-eq, le-of-suc-le-suc, lt-of-lt-of-le, lt-of-le-of-lt, mul-one, mul-assoc, mul-pos, mul-le-mul, mul-le-mul-right, mul-lt-mul-of-pos-right, mod-eq-of-lt, mod-le, eq-or-lt-of-le, suc-add}
+use native.Mathlib.Nat.{le-trans, le-of-eq, le-of-suc-le-suc, lt-of-lt-of-le, lt-of-le-of-lt, mul-one, mul-assoc, mul-pos, mul-le-mul, mul-le-mul-right, mul-lt-mul-of-pos-right, mod-eq-of-lt, eq-or-lt-of-le, suc-add}
 use native.Mathlib.Numerals.{add-one}
 use native.Mathlib.Omega.{arith}
 use mathlib.Core.Bool.{Bool, true, false, not, true≢false}
 use lib.Dec.{T, leb, ltb, ltb→lt, nltb→le, le→leb, lit≤}
-use lib.Arith.{lt→nleb, le→nltb}
+use lib.Arith.{lt→nleb}
 use lib.Pow.{pow-add, pow-pos, pow-mono, shl-exact}
 use lib.Count.{leadingZeros, leading-top}
-use lib.Ieee.{Float, nan, inf, fin, Format, binary32, hid, ones, top, ofFields, ofBits, toBits, nanBits, isNan, ne}
-use lib.Ieee.Bits.{is-true, is-false, nanBits-above}
+use lib.Ieee.{Float, nan, inf, fin, binary32, ofFields, ofBits, toBits, isNan, ne}
+use lib.Ieee.Bits.{is-true, is-false}
 use lib.Ieee.Exact.{HasValue}
 use Rattle.floats.specs.Floats.{floorRoot, nearestRoot, root}
 use Rattle.floats.proofs.Fields.{ofBits-is, low-value, mid-value, nan-bits}
@@ -19,10 +19,7 @@ use Rattle.floats.proofs.Grid.{pow-lt-back}
 use Rattle.floats.proofs.Squares.{Near, floorRoot-is, sq-lt}
 use Rattle.floats.proofs.Roots.{root-at, root-negative, near-pattern}
 
--- ---- no NaN: a pattern up to the infinity's, and a float that equals itself
-pub no-nan-bits : (f : Format) (b : ℕ) → b ≤ ones f * hid f → T (not (nanBits f b))
-no-nan-bits f b h = subst (λ (x : Bool). T (not x)) (sym (nanBits-above f b)) (le→nltb (ones f * hid f) (b % top f) (le-trans (mod-le b (top f)) h))
-
+-- ---- no NaN: a float that equals itself
 pub same-no-nan : (x : Float) → ne x x ≡ false → T (not (isNan x))
 unfolding ne isNan
 same-no-nan nan e = absurd (true≢false e)
@@ -74,6 +71,10 @@ below-sign b h =
     ofBits-is binary32 b
     ∙ ap (λ (s : Bool). ofFields binary32 s (b % 2 ^ 31 / 2 ^ 23) (b % 2 ^ 23)) (is-false (leb (2 ^ 31) b) (lt→nleb (2 ^ 31) b h))
     ∙ ap (λ (x : ℕ). ofFields binary32 false (x / 2 ^ 23) (b % 2 ^ 23)) (mod-eq-of-lt h)
+
+-- a number of 24 digits and a power, from one number that holds both
+pub split-is : (t m g : ℕ) → t % 2 ^ 23 + 2 ^ 23 ≡ m → t / 2 ^ 23 ≡ g → toBits binary32 (nearestRoot binary32 ((t % 2 ^ 23 + 2 ^ 23) * 2 ^ (t / 2 ^ 23 + 21))) ≡ toBits binary32 (nearestRoot binary32 (m * 2 ^ (g + 21)))
+split-is t m g p q = ap (λ (x : ℕ). toBits binary32 (nearestRoot binary32 (x * 2 ^ (t / 2 ^ 23 + 21)))) p ∙ ap (λ (x : ℕ). toBits binary32 (nearestRoot binary32 (m * 2 ^ (x + 21)))) q
 
 pub normal-is : (b r : ℕ) → 2 ^ 23 ≤ b → b < 255 * 2 ^ 23 → r ≡ toBits binary32 (nearestRoot binary32 ((b % 2 ^ 23 + 2 ^ 23) * 2 ^ (b / 2 ^ 23 + 127 + 21)))
     → r ≡ toBits binary32 (root binary32 (ofBits binary32 b))

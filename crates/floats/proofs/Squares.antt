@@ -1,7 +1,7 @@
 -- Whole roots: what `floorRoot` is, how it goes with a scale, and that a nearest whole root is one only. Nothing here is about floats. Assumes nothing.
 use mathlib.Core.Path.{_≡_, refl, sym, ap, _∙_, subst}
 use Prim.Native.Nat.{ℕ, zero, suc, _+_, _-_, _*_, _/_, _^_, _≤_, _<_}
-use native.Mathlib.Nat.{le-trans, le-of-eq, le-antisymm, le-of-suc-le-suc, lt-of-lt-of-le, lt-of-le-of-lt, lt-of-not-le, not-le-of-lt, add-comm, add-assoc, mul-comm, mul-mul-mul-comm, mul-add, add-mul, suc-mul, mul-suc, mul-le-mul, mul-le-mul-right, mul-lt-mul-of-pos-right, pow-succ', le-div-iff-mul-le, div-lt-iff-lt-mul, one-mul, mul-one}
+use native.Mathlib.Nat.{le-trans, le-of-eq, le-of-lt, le-antisymm, le-of-suc-le-suc, lt-of-lt-of-le, lt-of-le-of-lt, lt-of-not-le, not-le-of-lt, add-comm, add-assoc, mul-comm, mul-mul-mul-comm, mul-add, add-mul, suc-mul, mul-suc, mul-le-mul, mul-le-mul-right, mul-lt-mul-of-pos-right, pow-succ', le-div-iff-mul-le, div-lt-iff-lt-mul, one-mul, mul-one}
 use native.Mathlib.Numerals.{add-one}
 use native.Mathlib.Omega.{arith}
 use mathlib.Core.Bool.{Bool, true, false, not, cond}
@@ -24,6 +24,17 @@ sq-next w = simp (mul-add, add-mul, mul-one, one-mul, add-assoc)
 
 pub sq-lt : (a b : ℕ) → a * a < b * b → a < b
 sq-lt a b h = lt-of-not-le (λ (g : b ≤ a). not-le-of-lt h (mul-le-mul g g))
+
+pub sq-le : (r : ℕ) → r < 2 ^ 25 → r * r ≤ 2 ^ 50
+sq-le r h = mul-le-mul (le-of-lt h) (le-of-lt h)
+
+-- where r * (r - 1) is below an n of 48 digits, r is at most 2 ^ 24
+pub near-le : (n r : ℕ) → n < 2 ^ 48 → r * r < n + r → r ≤ 2 ^ 24
+near-le n zero h k = omega arith
+near-le n (suc r) h k = le-of-suc-le-suc (lt-of-not-le (λ (g : suc (2 ^ 24) ≤ suc r). over n (r * suc r) (suc r) (suc r * suc r) h k (suc-mul r (suc r)) (mul-le-mul (le-of-suc-le-suc g) (le-of-lt g))))
+  where
+    over : (n x s y : ℕ) → n < 2 ^ 48 → y < n + s → y ≡ x + s → 2 ^ 48 ≤ x → ⊥
+    over n x s y a b c d = omega arith
 
 quads : (v : ℕ) → v * 2 * (v * 2) ≡ 4 * (v * v)
 quads v = mul-mul-mul-comm v 2 v 2 ∙ mul-comm (v * v) 4

@@ -1,101 +1,34 @@
--- `floats::root::nearest_root` meets its contract, whatever the guess. The first loop brings r down until r * (r - 1) is below n, and the second up until n is at most r * (r + 1).
-use Prim.Native.Nat.{ℕ, zero, suc, _+_, _-_, _*_, _^_, _≤_, _<_}
-use native.Mathlib.Nat.{mul-le-mul, lt-of-not-le, zero-lt-suc}
 use native.Mathlib.Omega.{arith}
-use Rattle.floats.proofs.Squares.{sq-next}
+use Rattle.floats.proofs.Squares.{sq-le, near-le}
+use borrow.Author.Needs.{needs}
 use Rattle.floats.proofs.root.nearest_root.Statement.{statement}
 use Rattle.floats.proofs.root.nearest_root.Tie as tie
 
-abbrev Inv-loop : tie.InvT-loop
-Inv-loop n start r₀ r = r ≤ 2 ^ 24
+mul-s : tie.Need-mul-s
+mul-s c = omega (arith, sq-le (c .args .start) (omega arith))
 
-abbrev μ-loop : tie.MeasureT-loop
-μ-loop n start r₀ r = r
+add-if1 : tie.Need-add-if1
+add-if1 c = search needs
 
-abbrev Inv-loop2 : tie.InvT-loop2
-Inv-loop2 n start r₀ r = (r ≤ 2 ^ 24) × (r * r < n + r)
+walked-requires : tie.Need-walked-requires
+walked-requires c κs = search needs
 
-abbrev μ-loop2 : tie.MeasureT-loop2
-μ-loop2 n start r₀ r = 2 ^ 24 - r
+returns : tie.Need-returns
+returns c = search needs
 
-sq-le : (r : ℕ) → r ≤ 2 ^ 24 → r * r ≤ 2 ^ 48
-sq-le r h = mul-le-mul h h
+add-if2 : tie.Need-add-if2
+add-if2 c = search needs
 
--- where r * r + r is below n, r is below 2 ^ 24
-sq-room : (n r : ℕ) → n < 2 ^ 48 → r * r + r < n → r < 2 ^ 24
-sq-room n r h k = lt-of-not-le (λ (g : 2 ^ 24 ≤ r). over n (r * r) r h k (mul-le-mul g g))
-  where
-    over : (n x r : ℕ) → n < 2 ^ 48 → x + r < n → 2 ^ 48 ≤ x → ⊥
-    over n x r a b c = omega arith
+walked-requires-2 : tie.Need-walked-requires-2
+walked-requires-2 c κs = search needs
 
--- 0 * 0 is no test that takes one off 0
-some : (n r : ℕ) → 0 < n → n + r ≤ r * r → 1 ≤ r
-some n zero h k = absurd (none n h k)
-  where
-    none : (n : ℕ) → 0 < n → n + 0 ≤ 0 → ⊥
-    none n a b = omega arith
-some n (suc r) h k = zero-lt-suc r
+returns-2 : tie.Need-returns-2
+returns-2 c = search needs
 
-loop-holds : tie.Need-loop-holds Inv-loop μ-loop Inv-loop2 μ-loop2
-loop-holds c = omega arith
-
-add-loop : tie.Need-add-loop Inv-loop μ-loop Inv-loop2 μ-loop2
-add-loop c = omega arith
-
-mul-loop : tie.Need-mul-loop Inv-loop μ-loop Inv-loop2 μ-loop2
-mul-loop c = omega (arith, sq-le (c .loop .r) (c .loop .inv))
-
-sub-r : tie.Need-sub-r Inv-loop μ-loop Inv-loop2 μ-loop2
-sub-r c = some (c .before .before .args .n) (c .before .loop .r) (c .before .before .pre .0) (c .loop-test .taken)
-
-loop-less : tie.Need-loop-less Inv-loop μ-loop Inv-loop2 μ-loop2
-loop-less c = omega (arith, sub-r c)
-
-loop-again : tie.Need-loop-again Inv-loop μ-loop Inv-loop2 μ-loop2
-loop-again c = omega arith
-
-loop2-holds : tie.Need-loop2-holds Inv-loop μ-loop Inv-loop2 μ-loop2
-loop2-holds c = omega arith
-
-mul-loop2 : tie.Need-mul-loop2 Inv-loop μ-loop Inv-loop2 μ-loop2
-mul-loop2 c = omega (arith, sq-le (c .loop2 .r) (c .loop2 .inv .0))
-
-add-loop2 : tie.Need-add-loop2 Inv-loop μ-loop Inv-loop2 μ-loop2
-add-loop2 c = omega (arith, sq-le (c .loop2 .r) (c .loop2 .inv .0))
-
-add-r : tie.Need-add-r Inv-loop μ-loop Inv-loop2 μ-loop2
-add-r c = omega arith
-
-room : (c : tie.In-loop2 Inv-loop μ-loop Inv-loop2 μ-loop2) → c .before .loop2 .r < 2 ^ 24
-room c = sq-room (c .before .before .before .before .args .n) (c .before .loop2 .r) (c .before .before .before .before .pre .1) (c .loop2-test .taken)
-
-loop2-less : tie.Need-loop2-less Inv-loop μ-loop Inv-loop2 μ-loop2
-loop2-less c = omega (arith, room c)
-
-loop2-again : tie.Need-loop2-again Inv-loop μ-loop Inv-loop2 μ-loop2
-loop2-again c = omega (arith, room c, sq-next (c .before .loop2 .r))
-
-returns : tie.Need-returns Inv-loop μ-loop Inv-loop2 μ-loop2
-returns c = omega arith
+returns-3 : tie.Need-returns-3
+returns-3 c = omega (arith, near-le (c .before .before .args .n) (c .before .before .args .start) (omega arith) (c .before .if1 .left))
 
 pub nearest-root-spec : {M : Type 1} → statement M
 nearest-root-spec =
     tie.close
-    (tie.spec
-    Inv-loop
-    μ-loop
-    Inv-loop2
-    μ-loop2
-    loop-holds
-    add-loop
-    mul-loop
-    sub-r
-    loop-less
-    loop-again
-    loop2-holds
-    mul-loop2
-    add-loop2
-    add-r
-    loop2-less
-    loop2-again
-    returns)
+    (tie.spec mul-s add-if1 walked-requires returns add-if2 walked-requires-2 returns-2 returns-3)
