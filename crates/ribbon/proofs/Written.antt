@@ -67,7 +67,7 @@ words-are k us = words-from (start k) us k (omega arith) refl
 
 -- ---- each tube of the list has two residues or more
 
-pub AllLong : List Tube → Type 0
+unfoldable pub AllLong : List Tube → Type 0
 AllLong [] = Unit
 AllLong (u ∷ us) = (2 ≤ sizeOf u) × AllLong us
 
