@@ -50,7 +50,7 @@ last-some t (suc n) h = go (last-some t n) (t n) refl h
     go all true q h = (n, (omega arith, q))
     go all false q h = wider t n (all h)
 
-some-first : (t : ℕ → Bool) (n i : ℕ) → i < n → t i ≡ true → 0 < first t n
+pub some-first : (t : ℕ → Bool) (n i : ℕ) → i < n → t i ≡ true → 0 < first t n
 unfolding first
 some-first t zero i l e = absurd (omega arith)
 some-first t (suc n) i l e = ⊎-elim (λ q. rw (← q, e) (at (first t i))) (λ m. earlier (first t n) (some-first t n i m e)) (eq-or-lt-of-le (le-of-suc-le-suc l))

@@ -8,14 +8,20 @@ use native.Mathlib.Omega.{arith}
 use lib.ListN.{length, getD}
 use lib.Dec.{ltb}
 use borrow.Author.Tests.{lt-ltb}
-use Rattle.tables.specs.Job.{Job}
+use Rattle.job.specs.Check.{check}
+use Rattle.job.specs.declared.Head.{Head}
+use Rattle.job.specs.declared.Checked.the-variants.{Fine}
+use Rattle.tables.specs.Job.{Job, jobOf}
+use Rattle.tubes.specs.declared.Source.{Source}
+use Rattle.tubes.specs.declared.Source.the-variants.{Coils, Segment}
 use Rattle.tubes.specs.Tubes.{Tube, given, shown, coilAlpha, segmentAlpha, frames, counts, covered, segmentTubes, coilTubes, tubes}
 use Rattle.mesh.specs.Mesh.{sizeOf, vertexSum, triangleSum}
-use Rattle.listing.specs.Listing.{Proper, Before, Every, InOrder, frameSum, SameCuts}
+use Rattle.listing.specs.Listing.{Known, Proper, Before, Every, InOrder, frameSum, SameCuts}
 use Rattle.listing.proofs.Tubes.{every-map, every-member, tubes-proper}
 use Rattle.listing.proofs.Order.{all-order, all-once}
 use Rattle.listing.proofs.Sums.{segment-sum, coils-sum, tubes-frames, vertices-exact, triangles-exact, tubes-few}
 use Rattle.listing.proofs.Ends.{covered-any, segment-placed, covered-some}
+use Rattle.listing.proofs.Accepted.{kind-few}
 use Rattle.listing.proofs.Same.{all-same}
 
 -- ---- each tube
@@ -28,6 +34,14 @@ module _ (J : Job) (far : ℕ → ℕ → Bool) (u : Tube) (m : List·Memᴰ u (
   -- 'n is .. 2 to 16,384'
   pub tube-size : J .residues ≤ 16384 → (2 ≤ sizeOf u) × (sizeOf u ≤ 16384)
   tube-size h = (each-tube .two, omega (arith, each-tube .most))
+
+-- 'kind (0 coil, 1 helix, 2 sheet)': of the tubes of a job that passed the checks
+pub tube-kind : (s : List ℕ) (h : Head) → check s ≡ Fine h → (far : ℕ → ℕ → Bool) (u : Tube) → List·Memᴰ u (tubes (jobOf s h) far) → u .kind ≤ 2
+tube-kind s h e far u m = go (u .source) (u .kind) (each-tube (jobOf s h) far u m .known)
+  where
+    go : (source : Source) (kind : ℕ) → Known (jobOf s h) source kind → kind ≤ 2
+    go Coils kind k = omega arith
+    go (Segment i) kind k = omega (arith, k .1, kind-few s h e i (k .0))
 
 -- ---- the order
 
