@@ -1,18 +1,18 @@
 -- What is covered: by a segment of two frames or more, hidden or not, and only where there is a C-alpha. Assumes nothing.
-use Prim.Native.Nat.{ℕ, zero, suc, _+_, _<_, _≤_}
-use mathlib.Core.Bool.{Bool, true, false, cond, not, _&&_, _||_}
-use mathlib.Core.Path.{_≡_, refl, sym, _∙_, ap, subst}
+use Prim.Native.Nat.{ℕ, zero, suc, _<_, _≤_}
+use mathlib.Core.Bool.{Bool, true, false, cond, _||_}
+use mathlib.Core.Path.{_≡_, refl}
 use mathlib.Core.Logic.{⊎-elim}
 use native.Mathlib.Nat.{le-of-suc-le-suc, eq-or-lt-of-le}
 use native.Mathlib.Omega.{arith}
-use lib.ListN.{length, getD}
-use lib.Dec.{eqb, ltb}
+use lib.ListN.{length}
+use lib.Dec.{eqb}
 use borrow.Author.Tests.{ltb-false, le-ltb, ne-eqb, not-true}
 use Rattle.job.specs.Search.{orElse, first, last}
-use Rattle.tables.specs.Job.{Job, gives, wants, inside}
+use Rattle.tables.specs.Job.{Job, gives, wants}
 use Rattle.tables.specs.declared.Range.{Range}
 use Rattle.tables.specs.declared.Want.the-variants.{Alpha, SegmentAlpha}
-use Rattle.tubes.specs.Tubes.{given, range, coilAlpha, segmentAlpha, frames, counts, any, covered}
+use Rattle.tubes.specs.Tubes.{range, coilAlpha, segmentAlpha, frames, counts, any, covered}
 use Rattle.segments.proofs.Laws.{given-above}
 use Rattle.listing.proofs.Tubes.{and-left, and-right}
 

@@ -1,14 +1,14 @@
 -- The tubes of a list stand in order: by source, and in one source by their first residues. So none stands twice. Assumes nothing.
 use Prim.Native.Nat.{ℕ, zero, suc, _+_, _-_, _<_, _≤_}
-use mathlib.Core.Bool.{Bool, true, false, cond, not, _&&_}
-use mathlib.Core.List.{List, [], _∷_, _++_, map, append-nil, append-assoc}
-use mathlib.Core.Path.{_≡_, refl, sym, _∙_, ap, subst}
-use mathlib.Core.Logic.{_⊎_, inl, inr, ⊎-elim}
+use mathlib.Core.Bool.{Bool, true, false, cond, _&&_}
+use mathlib.Core.List.{List, [], _∷_, _++_, map, append-nil}
+use mathlib.Core.Path.{_≡_, refl, sym, _∙_, ap}
+use mathlib.Core.Logic.{inl, inr, ⊎-elim}
 use native.Mathlib.Nat.{eq-or-lt-of-le}
 use native.Mathlib.Numerals.{add-one}
 use native.Mathlib.Omega.{arith}
 use lib.ListN.{length, getD, length-append}
-use lib.Dec.{eqb, ltb}
+use lib.Dec.{ltb}
 use borrow.Author.Tests.{ltb-false}
 use Rattle.tables.specs.Job.{Job, chainOf}
 use Rattle.tubes.specs.Frames.{chosen}
@@ -16,8 +16,8 @@ use Rattle.tubes.specs.Pieces.{glue, pieces, apart}
 use Rattle.tubes.specs.Tubes.{Tube, given, shown, coilAlpha, segmentAlpha, frames, counts, covered, gap, tubeOf, tubesOf, runTubes, segmentTubes, joined, loose, leads, joins, extended, coilTubes, tubes}
 use Rattle.tubes.specs.declared.Source.{Source}
 use Rattle.tubes.specs.declared.Source.the-variants.{Coils, Segment}
-use Rattle.mesh.specs.Mesh.{firstOf, sizeOf}
-use Rattle.listing.specs.Listing.{turnOf, turnIn, Before, Every, InOrder}
+use Rattle.mesh.specs.Mesh.{firstOf}
+use Rattle.listing.specs.Listing.{turnOf, Before, Every, InOrder}
 use Rattle.listing.proofs.Linked.{Next, Linked, linked-map, lastOf, last-is, extended-linked}
 use Rattle.listing.proofs.Tubes.{every-join, every-map, From, segment-from, coils-from, and-left, and-right}
 

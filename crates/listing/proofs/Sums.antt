@@ -1,11 +1,11 @@
 -- How many frames a list of tubes has, and so how many vertices and triangles. Assumes nothing.
-use Prim.Native.Nat.{ℕ, zero, suc, _+_, _-_, _*_, _<_, _≤_}
+use Prim.Native.Nat.{ℕ, zero, suc, _+_, _*_, _≤_}
 use mathlib.Core.Bool.{Bool, true, false, cond, _&&_}
 use mathlib.Core.List.{List, [], _∷_, _++_, map}
-use mathlib.Core.Path.{_≡_, refl, sym, _∙_, ap, subst}
-use native.Mathlib.Nat.{suc-mul, mul-le-mul-right}
+use mathlib.Core.Path.{_≡_, refl, _∙_, ap}
+use native.Mathlib.Nat.{suc-mul}
 use native.Mathlib.Omega.{arith}
-use lib.ListN.{length, getD, length-append}
+use lib.ListN.{length, getD}
 use lib.Dec.{ltb}
 use Rattle.tables.specs.Job.{Job, chainOf}
 use Rattle.tubes.specs.Frames.{chosen}
@@ -15,7 +15,7 @@ use Rattle.tubes.specs.declared.Source.{Source}
 use Rattle.tubes.specs.declared.Source.the-variants.{Coils, Segment}
 use Rattle.tubes.proofs.Laws.{chosen-length}
 use Rattle.coils.proofs.Laws.{extended-few}
-use Rattle.mesh.specs.Mesh.{sizeOf, vertexCount, triangleCount, vertexSum, triangleSum}
+use Rattle.mesh.specs.Mesh.{sizeOf, vertexSum, triangleSum}
 use Rattle.listing.specs.Listing.{Every, frameSum, EachList}
 use Rattle.listing.proofs.Linked.{linked-from, pieces-linked}
 use Rattle.listing.proofs.Tubes.{each-map}

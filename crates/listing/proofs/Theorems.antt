@@ -1,20 +1,20 @@
 -- What is proved of 01's list of tubes, `tubes J far`: of any job J, and any test `far` of the step between two atoms. Assumes nothing.
 use Prim.Native.Nat.{ℕ, _+_, _*_, _<_, _≤_}
-use mathlib.Core.Bool.{Bool, true, false, cond, _&&_}
+use mathlib.Core.Bool.{Bool, true, false, _&&_}
 use mathlib.Core.List.{List, [], List·Memᴰ}
 use mathlib.Core.Path.{_≡_, refl}
 use native.Mathlib.Nat.{mul-le-mul}
 use native.Mathlib.Omega.{arith}
 use lib.ListN.{length, getD}
-use lib.Dec.{ltb}
-use borrow.Author.Tests.{lt-ltb}
+use lib.Dec.{eqb, ltb}
+use borrow.Author.Tests.{lt-ltb, ne-eqb}
 use Rattle.job.specs.Check.{check}
 use Rattle.job.specs.declared.Head.{Head}
 use Rattle.job.specs.declared.Checked.the-variants.{Fine}
-use Rattle.tables.specs.Job.{Job, jobOf}
+use Rattle.tables.specs.Job.{Job, jobOf, chainOf}
 use Rattle.tubes.specs.declared.Source.{Source}
 use Rattle.tubes.specs.declared.Source.the-variants.{Coils, Segment}
-use Rattle.tubes.specs.Tubes.{Tube, given, shown, coilAlpha, segmentAlpha, frames, counts, covered, segmentTubes, coilTubes, tubes}
+use Rattle.tubes.specs.Tubes.{Tube, given, shown, coilAlpha, segmentAlpha, frames, counts, covered, joins, segmentTubes, coilTubes, tubes}
 use Rattle.mesh.specs.Mesh.{sizeOf, vertexSum, triangleSum}
 use Rattle.listing.specs.Listing.{Known, Proper, Before, Every, InOrder, frameSum, SameCuts}
 use Rattle.listing.proofs.Tubes.{every-map, every-member, tubes-proper}
@@ -57,11 +57,11 @@ module _ (J : Job) (far : ℕ → ℕ → Bool) where
 -- ---- the sums
 
 module _ (J : Job) (far : ℕ → ℕ → Bool) where
-  -- no frame stands twice in the tubes of one segment
+  -- the tubes of one segment have at most R residues in all
   pub segment-frames : (i : ℕ) → frameSum (segmentTubes J far i) ≤ J .residues
   segment-frames = segment-sum J far
 
-  -- a run of the coils gains two neighbours at most
+  -- those of the coils at most 3R: a run of n residues gains two neighbours at most
   pub coil-frames : frameSum (coilTubes J far) ≤ 3 * J .residues
   coil-frames = coils-sum J far
 
@@ -100,6 +100,16 @@ module _ (J : Job) (r : ℕ) where
   -- 02 §10: 'a covered neighbour with no C-alpha position .. no accepted job has one'
   pub covered-placed : covered J r ≡ true → 0 < coilAlpha J r
   covered-placed e = let s = covered-by e in segment-placed J (s .0) r (s .1 .1 .1)
+
+  -- so that test decides nothing
+  pub joins-plain : (to : ℕ) → joins J r to ≡ (ltb r (J .residues) && (covered J r && eqb (chainOf J r) (chainOf J to)))
+  unfolding joins
+  joins-plain to = go (covered J r) refl
+    where
+      go : (b : Bool) → covered J r ≡ b
+          → (ltb r (J .residues) && (b && (given (coilAlpha J r) && eqb (chainOf J r) (chainOf J to)))) ≡ (ltb r (J .residues) && (b && eqb (chainOf J r) (chainOf J to)))
+      go true e = rw (ne-eqb (coilAlpha J r) 0 (λ z. omega (arith, covered-placed e)))
+      go false e = refl
 
 and-false : (b : Bool) → (b && false) ≡ false
 and-false true = refl

@@ -1,14 +1,13 @@
 -- Every tube of a list is what its definition makes it. Assumes nothing.
-use Prim.Native.Nat.{ℕ, zero, suc, _+_, _-_, _*_, _<_, _≤_}
-use mathlib.Core.Bool.{Bool, true, false, cond, not, _&&_, _||_}
+use Prim.Native.Nat.{ℕ, zero, suc, _+_, _-_, _<_, _≤_}
+use mathlib.Core.Bool.{Bool, true, false, cond, _&&_}
 use mathlib.Core.List.{List, [], _∷_, _++_, map, List·Memᴰ, List·Memᴰ·cases-cons, List·Memᴰ·not-nil}
-use mathlib.Core.Path.{_≡_, refl, sym, _∙_, ap, subst}
+use mathlib.Core.Path.{_≡_, refl, sym, subst}
 use mathlib.Core.Logic.{⊎-elim}
-use native.Mathlib.Nat.{eq-or-lt-of-le}
 use native.Mathlib.Omega.{arith}
 use lib.ListN.{length, getD}
-use lib.Dec.{eqb, ltb}
-use borrow.Author.Tests.{ltb-true, ltb-false, eqb-true, eqb-false, eq-eqb, not-true}
+use lib.Dec.{ltb}
+use borrow.Author.Tests.{ltb-true, ltb-false, eqb-true, eq-eqb}
 use Rattle.tables.specs.Job.{Job, chainOf}
 use Rattle.tubes.specs.Frames.{chosen}
 use Rattle.tubes.specs.Lists.{Each, Consecutive}
@@ -16,10 +15,10 @@ use Rattle.tubes.specs.Pieces.{pieces, apart}
 use Rattle.tubes.specs.Tubes.{Tube, given, shown, coilAlpha, segmentAlpha, alphaOf, frames, counts, covered, gap, tubeOf, tubesOf, runTubes, segmentTubes, joined, loose, joins, extended, coilTubes, tubes}
 use Rattle.tubes.specs.declared.Source.{Source}
 use Rattle.tubes.specs.declared.Source.the-variants.{Coils, Segment}
-use Rattle.tubes.proofs.Laws.{Uncut, uncut-consecutive, uncut-chain, chosen-below}
+use Rattle.tubes.proofs.Laws.{uncut-consecutive, uncut-chain, chosen-below}
 use Rattle.segments.proofs.Laws.{chosen-true, given-above}
-use Rattle.mesh.specs.Mesh.{firstOf, sizeOf}
-use Rattle.listing.specs.Listing.{Neighbours, Known, Proper, EachList, Every}
+use Rattle.mesh.specs.Mesh.{sizeOf}
+use Rattle.listing.specs.Listing.{Known, Proper, EachList, Every}
 use Rattle.listing.proofs.Linked.{Linked, linked-each, linked-neighbours, linked-from, linked-weak, pieces-linked, extended-linked}
 
 -- ---- P of every tube of a list

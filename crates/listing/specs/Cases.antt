@@ -1,11 +1,11 @@
 -- 01's bench cases of jobs, tube lists and steps, as tests that compute; proofs/Cases has their table.
-use Prim.Native.Nat.{ℕ, zero, suc, _+_, _*_, _/_, _%_}
-use mathlib.Core.Bool.{Bool, true, false, cond, not, _&&_}
+use Prim.Native.Nat.{ℕ, zero, suc, _+_, _/_, _%_}
+use mathlib.Core.Bool.{Bool, true, false, _&&_}
 use mathlib.Core.List.{List, [], _∷_, _++_}
 use lib.Dec.{eqb}
 use lib.Count.{trailingZeros}
 use lib.ListN.{length}
-use lib.Ieee.{Float, ofBits, ofFields, odd, le, lt, eq, round, add, sub, mul}
+use lib.Ieee.{ofBits, ofFields, odd, le, lt, eq, round, add, sub, mul}
 use Rattle.floats.specs.Floats.{narrowed, root}
 use Rattle.vectors.specs.Vec.{vec, vsub, vdot, vlength, lit}
 use Rattle.job.specs.Search.{first, last}

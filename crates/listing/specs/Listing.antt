@@ -1,5 +1,5 @@
 -- What the theorems about a job's list of tubes say, in words of their own.
-use Prim.Native.Nat.{ℕ, zero, suc, _+_, _<_, _≤_}
+use Prim.Native.Nat.{ℕ, suc, _+_, _<_, _≤_}
 use mathlib.Core.List.{List, [], _∷_, map}
 use mathlib.Core.Bool.{Bool, false}
 use mathlib.Core.Path.{_≡_}
