@@ -86,15 +86,16 @@ fn readme(sample: &[Request]) -> String {
     format!(
         "# Recorded answers of the oracle
 
-`requests.bin` holds {requests} requests in the stream protocol of the batch program (`../src/protocol.rs` says how they are laid out), `answers.bin`
+`requests.bin` holds {requests} requests in the stream protocol of the batch program (`oracle/src/protocol.rs` says how they are laid out), `answers.bin`
 the oracle's answers in the same order. They were made by
 
-    cargo run --release --offline --manifest-path oracle/Cargo.toml -- record --out oracle/recorded
+    cargo run --release --offline --manifest-path oracle/Cargo.toml -- record --out crates/replay/data
 
-which always gives the same bytes: first the bench cases of 01 (`../src/cases.rs`), then requests of the generator's seed {SEED}, kept until
+which always gives the same bytes: first the bench cases of 01 (`oracle/src/cases.rs`), then requests of the generator's seed {SEED}, kept until
 there are enough of each call and each kind of answer: meshes, refusals 1 to 11, plans, parts of a triangle buffer and empty parts.
 The longest buffers lent are, in places: {lengths}; the longest bytes of a request {bytes}.
-`cargo test` fails when the oracle answers otherwise. The cosines and sines behind the meshes are those of `../../docs/ANGLES.md`.
+The oracle's tests fail when it answers otherwise; the program `replay` runs them without it. The cosines and sines behind the meshes are those
+of `docs/ANGLES.md`.
 "
     )
 }

@@ -1,0 +1,72 @@
+-- A tube's part that is not empty lies in the buffer. Assumes nothing.
+use mathlib.Core.Path.{_≡_, refl, sym, ap, _∙_}
+use mathlib.Core.Bool.{Bool, true, false, cond, _&&_}
+use mathlib.Core.List.{List, [], _∷_}
+use Prim.Native.Nat.{ℕ, _+_, _*_, _/_, _≤_, _<_}
+use native.Mathlib.Omega.{arith}
+use lib.Dec.{ltb, leb, eqb}
+use lib.ListN.{length, take, drop, getD, length-drop}
+use lib.Seq.{length-take-le}
+use borrow.Author.Tests.{ltb-true, leb-true, ne-eqb}
+use Rattle.mesh.specs.Mesh.{triangleCount}
+use Rattle.ribbon.specs.Calls.{tubePart}
+use Rattle.ribbon_c.specs.Parts.{Part}
+
+clash : {P : Type 0} → true ≡ false → P
+clash e = let z : _≡_ {A = ℕ} 0 1 = cc in absurd (omega arith)
+
+-- a list of no elements is empty
+no-elements : (l : List ℕ) → length l ≡ 0 → [] ≡ l
+no-elements [] e = refl
+no-elements (x ∷ l) e = absurd (omega (arith, e))
+
+first-of : (a b : Bool) → (a && b) ≡ true → a ≡ true
+first-of true b e = refl
+first-of false b e = clash (sym e)
+
+second-of : (a b : Bool) → (a && b) ≡ true → b ≡ true
+second-of true b e = e
+second-of false b e = clash (sym e)
+
+-- the test of `tubePart` holds where the part is not empty
+tested : (t : Bool) (l : List ℕ) → (length (cond t l []) ≡ 0 → ⊥) → t ≡ true
+tested true l h = refl
+tested false l h = absurd (h refl)
+
+third-of : (a b c d : Bool) → (a && (b && (c && d))) ≡ true → d ≡ true
+third-of a b c d e = second-of c d (second-of b (c && d) (second-of a (b && (c && d)) e))
+
+module _ (tubes triangles : List ℕ) (k : ℕ) where
+  abbrev from : ℕ
+  from = 3 * getD tubes (5 * k + 4) 0
+
+  abbrev many : ℕ
+  many = getD tubes (5 * k + 2) 0
+
+  abbrev size : ℕ
+  size = 3 * triangleCount many
+
+  abbrev test : Bool
+  test = ltb k (length tubes / 5) && (leb 2 many && (leb many 16384 && leb (from + size) (length triangles)))
+
+  full : (length (tubePart tubes triangles k) ≡ 0 → ⊥) → test ≡ true
+  unfolding tubePart
+  full h = tested test _ h
+
+  pub listed : (length (tubePart tubes triangles k) ≡ 0 → ⊥) → 5 * k + 4 < length tubes
+  listed h = omega (arith, ltb-true k (length tubes / 5) (first-of (ltb k (length tubes / 5)) (leb 2 many && (leb many 16384 && leb (from + size) (length triangles))) (full h)))
+
+  whole : test ≡ true → tubePart tubes triangles k ≡ take size (drop from triangles)
+  unfolding tubePart
+  whole e = rw e
+
+  pub part-full : (n : ℕ) → n ≡ length (tubePart tubes triangles k) → (n ≡ 0 → ⊥) → Part tubes triangles k from n
+  part-full n e h =
+      let t : test ≡ true = full (λ z. h (e ∙ z)) in
+      let i : from + size ≤ length triangles =
+      leb-true (from + size) (length triangles) (third-of (ltb k (length tubes / 5)) (leb 2 many) (leb many 16384) (leb (from + size) (length triangles)) t) in
+      let m : n ≡ size = e ∙ ap length (whole t) ∙ length-take-le size (drop from triangles) (simp length-drop (omega arith)) in
+      record { size = e; begin = rw (ne-eqb n 0 h); within = omega arith; there = rw m (sym (whole t)) }
+
+  pub part-empty : 0 ≡ length (tubePart tubes triangles k) → Part tubes triangles k 0 0
+  part-empty e = record { size = e; begin = refl; within = omega arith; there = no-elements _ (sym e) }

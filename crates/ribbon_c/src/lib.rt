@@ -1,0 +1,124 @@
+// The three calls for C and Rust: a slice is a pointer and a length, and an answer is words in a lent array.
+use job::Refusal;
+use ribbon::Built;
+use ribbon::Planned;
+ghost use mathlib.Core.Path.{_≡_};
+ghost use lib.ListN.{length};
+ghost use Rattle.answers.specs.Numbers.{refusalNumbers};
+ghost use Rattle.mesh.specs.Outs.{outs};
+ghost use Rattle.ribbon.specs.Calls.{lent, buildAnswer, planAnswer, outsAfter, wordsAfter, floatsAfter};
+ghost use Rattle.ribbon_c.specs.Parts.{Part};
+ghost use Rattle.ribbon_c.specs.Words.{wordOf, wordsOf, builtNumbers, plannedNumbers};
+
+fn word(n: usize) -> u32
+    ensures { λ r. ⌜ r ≡ wordOf n ⌝ }
+{
+    (n % 4294967296) as u32
+}
+
+fn refusal_words(r: Refusal) -> [u32; 4]
+    ensures { λ w. ⌜ w ≡ wordsOf (refusalNumbers r) ⌝ }
+{
+    let n = answers::refusal_numbers(r);
+    [word(n[0]), word(n[1]), word(n[2]), word(n[3])]
+}
+
+fn built_words(a: Built) -> [u32; 4]
+    ensures { λ w. ⌜ w ≡ wordsOf (builtNumbers a) ⌝ }
+{
+    match a {
+        Built::Mesh(c) => [0, word(c.tubes), word(c.vertices), word(c.triangles)],
+        Built::NoMesh(r) => refusal_words(r),
+    }
+}
+
+fn planned_words(a: Planned) -> [u32; 9]
+    ensures { λ w. ⌜ w ≡ wordsOf (plannedNumbers a) ⌝ }
+{
+    match a {
+        Planned::Plan(c, f) => [
+            0,
+            word(c.tubes),
+            word(c.vertices),
+            word(c.triangles),
+            word(f.kind),
+            word(f.first),
+            word(f.length),
+            word(f.vertex),
+            word(f.triangle),
+        ],
+        Planned::NoPlan(r) => {
+            let w = refusal_words(r);
+            [w[0], w[1], w[2], w[3], 0, 0, 0, 0, 0]
+        }
+    }
+}
+
+// The number (0: a mesh) and K, V, T, or a refusal's number and what it carries, go to answer.
+#[no_mangle]
+pub extern "C" fn ribbon_build(
+    job: &[u8],
+    positions: &mut [f32],
+    normals: &mut [f32],
+    tags: &mut [u32],
+    triangles: &mut [u32],
+    tubes: &mut [u32],
+    boxes: &mut [f32],
+    words: &mut [u32],
+    floats: &mut [f32],
+    answer: &mut [u32; 4],
+)
+    ensures { λ _. ⌜ (now (answer .exit) ≡ wordsOf (builtNumbers (buildAnswer (now (job .entry)) (lent (outs (now (positions .entry)) (now (normals .entry)) (now (tags .entry)) (now (triangles .entry)) (now (tubes .entry)) (now (boxes .entry))) (now (words .entry)) (now (floats .entry))))))
+        × ((outs (now (positions .exit)) (now (normals .exit)) (now (tags .exit)) (now (triangles .exit)) (now (tubes .exit)) (now (boxes .exit))) ≡ outsAfter (now (job .entry)) (lent (outs (now (positions .entry)) (now (normals .entry)) (now (tags .entry)) (now (triangles .entry)) (now (tubes .entry)) (now (boxes .entry))) (now (words .entry)) (now (floats .entry))) (outs (now (positions .entry)) (now (normals .entry)) (now (tags .entry)) (now (triangles .entry)) (now (tubes .entry)) (now (boxes .entry))))
+        × (now (words .exit) ≡ wordsAfter (now (job .entry)) (length (now (words .entry))) (length (now (floats .entry))) (now (words .entry)))
+        × (now (floats .exit) ≡ floatsAfter (now (job .entry)) (length (now (words .entry))) (length (now (floats .entry))) (now (floats .entry))) ⌝ }
+{
+    let a = ribbon::build(
+        job,
+        positions,
+        normals,
+        tags,
+        triangles,
+        tubes,
+        boxes,
+        words,
+        floats,
+    );
+    *answer = built_words(a);
+}
+
+// The same four words (0: a plan), and tube k's five.
+#[no_mangle]
+pub extern "C" fn ribbon_plan(
+    job: &[u8],
+    k: usize,
+    words: &mut [u32],
+    floats: &mut [f32],
+    answer: &mut [u32; 9],
+)
+    ensures { λ _. ⌜ (now (answer .exit) ≡ wordsOf (plannedNumbers (planAnswer (now (job .entry)) k (length (now (words .entry))) (length (now (floats .entry))))))
+        × (now (words .exit) ≡ wordsAfter (now (job .entry)) (length (now (words .entry))) (length (now (floats .entry))) (now (words .entry)))
+        × (now (floats .exit) ≡ floatsAfter (now (job .entry)) (length (now (words .entry))) (length (now (floats .entry))) (now (floats .entry))) ⌝ }
+{
+    let a = ribbon::plan(job, k, words, floats);
+    *answer = planned_words(a);
+}
+
+// The place in triangles where tube k's part begins goes to start; the answer is the part's length, 0 where it is empty.
+#[no_mangle]
+pub extern "C" fn ribbon_tube(
+    tubes: &[u32],
+    triangles: &[u32],
+    k: usize,
+    start: &mut usize,
+) -> usize
+    ensures { λ n. ⌜ Part (now (tubes .entry)) (now (triangles .entry)) k (now (start .exit)) n ⌝ }
+{
+    let n = ribbon::tube(tubes, triangles, k).len();
+    if n == 0 {
+        *start = 0;
+        return 0;
+    }
+    *start = 3 * (tubes[5 * k + 4] as usize);
+    n
+}

@@ -1,0 +1,4 @@
+pub mod Words
+pub mod Patterns
+pub mod Requests
+pub mod Sinks

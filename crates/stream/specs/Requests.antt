@@ -1,0 +1,49 @@
+-- The head of a request, 41 bytes: the call, eight lengths in places, k, and how many bytes follow.
+use Prim.Native.Nat.{ℕ, _+_, _*_, _≤_, _<_}
+use mathlib.Core.List.{List}
+use mathlib.Core.Bool.{Bool, true, _&&_, _||_}
+use mathlib.Core.Path.{_≡_}
+use lib.Dec.{leb, eqb}
+use Rattle.job.specs.Bytes.{u8At, u32At}
+use Rattle.stream.specs.declared.requests.Lengths.{Lengths}
+use Rattle.stream.specs.declared.requests.Request.{Request}
+
+abbrev pub lengthsOf : List ℕ → Lengths
+lengthsOf h = record {
+  positions = u32At h 1;
+  normals = u32At h 5;
+  tags = u32At h 9;
+  triangles = u32At h 13;
+  tubes = u32At h 17;
+  boxes = u32At h 21;
+  words = u32At h 25;
+  floats = u32At h 29;
+}
+
+abbrev pub requestOf : List ℕ → Request
+requestOf h = record { call = u8At h 0; lent = lengthsOf h; k = u32At h 33; bytes = u32At h 37 }
+
+-- the sum of two lengths is far below 2^64
+abbrev pub Small : Request → Type 0
+Small r = (r .lent .tubes < 4294967296) × (r .lent .triangles < 4294967296)
+
+-- a program whose arrays have the lengths own serves a request for these
+pub record Within (lent own : Lengths) : Type 0 where
+  pub positions : lent .positions ≤ own .positions
+  pub normals : lent .normals ≤ own .normals
+  pub tags : lent .tags ≤ own .tags
+  pub triangles : lent .triangles ≤ own .triangles
+  pub tubes : lent .tubes ≤ own .tubes
+  pub boxes : lent .boxes ≤ own .boxes
+  pub words : lent .words ≤ own .words
+  pub floats : lent .floats ≤ own .floats
+
+-- build and plan take any bytes, tube the bytes of its two buffers
+abbrev pub known : Request → Bool
+known r = eqb (r .call) 1 || eqb (r .call) 2 || (eqb (r .call) 3 && eqb (r .bytes) (4 * (r .lent .tubes + r .lent .triangles)))
+
+-- a request that is answered by a call, by a program whose arrays have the lengths own and room for so many bytes
+pub record Serves (r : Request) (own : Lengths) (room : ℕ) : Type 0 where
+  pub within : Within (r .lent) own
+  pub fits : r .bytes ≤ room
+  pub knows : known r ≡ true

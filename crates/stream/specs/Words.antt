@@ -1,0 +1,17 @@
+-- Words and floats as bytes.
+use Prim.Native.Nat.{ℕ, _/_, _%_}
+use mathlib.Core.List.{List, [], _∷_}
+use lib.ListN.{getD}
+use lib.Ieee.{Float, nan, binary32, toBits}
+use Rattle.buffers.specs.Put.{upto}
+
+-- a word as four bytes, the highest first
+unfoldable pub bytesOf : ℕ → List ℕ
+bytesOf w = w / 16777216 ∷ w / 65536 % 256 ∷ w / 256 % 256 ∷ w % 256 ∷ []
+
+-- the first n words of a list, and the first n floats by their bits, of which one pattern stands for every NaN
+unfoldable pub wordBytes : List ℕ → ℕ → List ℕ
+wordBytes l n = upto (λ (k : ℕ). bytesOf (getD l k 0)) n
+
+unfoldable pub floatBytes : List Float → ℕ → List ℕ
+floatBytes l n = upto (λ (k : ℕ). bytesOf (toBits binary32 (getD l k nan))) n

@@ -1,0 +1,26 @@
+// What lent buffers hold before a call, so that a write to a place which the call should leave as it was shows.
+ghost use mathlib.Core.Path.{_≡_};
+ghost use mathlib.Core.List.{[], _∷_};
+ghost use lib.ListN.{length};
+ghost use Rattle.buffers.specs.Put.{put, upto};
+ghost use Rattle.stream.specs.Patterns.{wordPattern, floatPattern};
+
+pub fn fill_words(w: &mut [u32])
+    ensures { λ _. ⌜ now (w .exit) ≡ put (now (w .entry)) 0 (upto (λ k. wordPattern k ∷ []) (length (now (w .entry)))) ⌝ }
+{
+    let mut i = 0;
+    while i < w.len() {
+        w[i] = 0xc0de_0000 + (i % 65536) as u32;
+        i += 1;
+    }
+}
+
+pub fn fill_floats(f: &mut [f32])
+    ensures { λ _. ⌜ now (f .exit) ≡ put (now (f .entry)) 0 (upto (λ k. floatPattern k ∷ []) (length (now (f .entry)))) ⌝ }
+{
+    let mut i = 0;
+    while i < f.len() {
+        f[i] = f32::from_bits(0x4000_0000 + (i % 65536) as u32);
+        i += 1;
+    }
+}

@@ -1,0 +1,114 @@
+// The head of a request.
+ghost use mathlib.Core.Path.{_≡_};
+ghost use mathlib.Core.Bool.{true};
+ghost use Prim.Native.Nat.{_≤_};
+ghost use lib.ListN.{length};
+ghost use Rattle.stream.specs.Requests.{requestOf, Small, Within, known, Serves};
+
+// How many places are lent of each buffer.
+pub struct Lengths {
+    pub positions: usize,
+    pub normals: usize,
+    pub tags: usize,
+    pub triangles: usize,
+    pub tubes: usize,
+    pub boxes: usize,
+    pub words: usize,
+    pub floats: usize,
+}
+
+pub struct Request {
+    pub call: u8,
+    pub lent: Lengths,
+    pub k: usize,
+    pub bytes: usize,
+}
+
+pub fn request_of(head: &[u8]) -> Request
+    requires { ⌜ 41 ≤ length (now head) ⌝ }
+    ensures { λ r. ⌜ (r ≡ requestOf (now (head .entry))) × Small r ⌝ }
+{
+    let lent = Lengths {
+        positions: job::u32_at(head, 1),
+        normals: job::u32_at(head, 5),
+        tags: job::u32_at(head, 9),
+        triangles: job::u32_at(head, 13),
+        tubes: job::u32_at(head, 17),
+        boxes: job::u32_at(head, 21),
+        words: job::u32_at(head, 25),
+        floats: job::u32_at(head, 29),
+    };
+    Request {
+        call: head[0],
+        lent,
+        k: job::u32_at(head, 33),
+        bytes: job::u32_at(head, 37),
+    }
+}
+
+// Whether no length of a request is above that of the program's own array.
+fn is_within(lent: Lengths, own: Lengths) -> bool
+    ensures { λ r. ⌜ (r ≡ true → Within lent own) × (Within lent own → r ≡ true) ⌝ }
+{
+    if own.positions < lent.positions {
+        return false;
+    }
+    if own.normals < lent.normals {
+        return false;
+    }
+    if own.tags < lent.tags {
+        return false;
+    }
+    if own.triangles < lent.triangles {
+        return false;
+    }
+    if own.tubes < lent.tubes {
+        return false;
+    }
+    if own.boxes < lent.boxes {
+        return false;
+    }
+    if own.words < lent.words {
+        return false;
+    }
+    if own.floats < lent.floats {
+        return false;
+    }
+    true
+}
+
+// Whether a request is one that is answered.
+fn is_known(r: Request) -> bool
+    requires { ⌜ Small r ⌝ }
+    ensures { λ a. ⌜ a ≡ known r ⌝ }
+{
+    if r.call == 1 {
+        return true;
+    }
+    if r.call == 2 {
+        return true;
+    }
+    if r.call == 3 {
+        let lent = r.lent;
+        return r.bytes == 4 * (lent.tubes + lent.triangles);
+    }
+    false
+}
+
+// Whether a program answers a request by a call: it knows it, and has room for the lent buffers and the bytes.
+pub fn is_served(r: Request, own: Lengths, room: usize) -> bool
+    requires { ⌜ Small r ⌝ }
+    ensures { λ a. ⌜ (a ≡ true → Serves r own room) × (Serves r own room → a ≡ true) ⌝ }
+{
+    let lent = r.lent;
+    if !is_within(lent, own) {
+        return false;
+    }
+    if room < r.bytes {
+        return false;
+    }
+    if !is_known(r) {
+        return false;
+    }
+    true
+}
