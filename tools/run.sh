@@ -1,11 +1,11 @@
 # Sourced by the wrappers at the root: builds a proved program once, and runs it on x86-64, or on Arm under the kit's emulator.
 # The kit's own loader and C library are used, as `rt` does, so that a program runs the same on every machine.
-kit=${RATTLE_HOME:-$(dirname "$(dirname "$(readlink -f "$(command -v rt || echo /opt/rattle/bin/rt)")")")}
+command -v rt >/dev/null || { echo "the Rattle kit's command 'rt' is not on the PATH" >&2; exit 2; }
+kit=${RATTLE_HOME:-$(dirname "$(dirname "$(readlink -f "$(command -v rt)")")")}
 tools=$kit/on/$(uname -m)/toolchain
 
 build() { # NAME
     [ -x "$root/target/bin/$1" ] && return
-    command -v rt >/dev/null || { echo "the Rattle kit's command 'rt' is not on the PATH" >&2; exit 2; }
     echo "building $1, which proves what it stands on; this takes some minutes the first time" >&2
     (cd "$root" && rt check "$1") >&2
 }

@@ -1,6 +1,6 @@
 //! Times the Rust of document 000 and the proved library on the same jobs. `rust` is document 000's own function on a decoded job, into
 //! its own vectors; `bytes` is the oracle's build from job bytes into lent buffers; `proved` is the library's build from job bytes into lent
-//! buffers. Buffers are allocated once, and not cleared between runs. Each figure is the median of its runs.
+//! buffers. Buffers are allocated once, and not cleared between runs. Each figure is the fastest of its runs.
 
 use std::{hint::black_box, time::Instant};
 
@@ -84,17 +84,19 @@ fn rust(job: &Job) -> usize {
     black_box(&mesh).vertices.len()
 }
 
-/// The median of as many runs as fit into half a second, at least five, in microseconds.
-fn median(mut f: impl FnMut()) -> f64 {
-    let began = Instant::now();
-    let mut times = Vec::new();
-    while times.len() < 5 || began.elapsed().as_millis() < 500 && times.len() < 2000 {
-        let at = Instant::now();
-        f();
-        times.push(at.elapsed().as_secs_f64() * 1e6);
+/// The fastest run of each in microseconds, taken in turn, so that what else the machine does weighs on all alike: as many rounds as fit into
+/// two seconds, at least five.
+fn fastest<const N: usize>(mut runs: [&mut dyn FnMut(); N]) -> [f64; N] {
+    let (began, mut best, mut rounds) = (Instant::now(), [f64::INFINITY; N], 0);
+    while rounds < 5 || began.elapsed().as_millis() < 2000 && rounds < 2000 {
+        for (run, best) in runs.iter_mut().zip(&mut best) {
+            let at = Instant::now();
+            run();
+            *best = best.min(at.elapsed().as_secs_f64() * 1e6);
+        }
+        rounds += 1;
     }
-    times.sort_by(f64::total_cmp);
-    times[times.len() / 2]
+    best
 }
 
 fn row(residues: u16, each: u32, segments: u16) {
@@ -124,10 +126,13 @@ fn row(residues: u16, each: u32, segments: u16) {
     assert_eq!(proved_build(&bytes, &mut ours)[..], [0, k as u32, v as u32, t as u32]);
     assert!(calls::build(&bytes, &mut theirs).is_ok() && ours.triangles == theirs.triangles);
     assert!(ours.positions.iter().zip(&theirs.positions).all(|(a, b)| a.to_bits() == b.to_bits()));
-    let a = median(|| { black_box(rust(&decoded)); });
-    let b = median(|| { black_box(calls::build(&bytes, &mut theirs).is_ok()); });
-    let c = median(|| { black_box(proved_build(&bytes, &mut ours)); });
-    let p = median(|| { black_box(proved_plan(&bytes, &mut ours)); });
+    let mut planning = room(v, t, k);
+    let [a, b, c, p] = fastest([
+        &mut || { black_box(rust(&decoded)); },
+        &mut || { black_box(calls::build(&bytes, &mut theirs).is_ok()); },
+        &mut || { black_box(proved_build(&bytes, &mut ours)); },
+        &mut || { black_box(proved_plan(&bytes, &mut planning)); },
+    ]);
     println!(
         "{residues:>6} {present:>8} {segments:>8} {v:>8} {a:>10.0} {b:>10.0} {c:>10.0} {p:>10.0} {:>10.2} {:>10.2} {:>10.3}",
         c / a, c / b, p / c
@@ -139,6 +144,9 @@ fn main() {
         println!("programs are compiled for x86-64 and emulated here, so a time measured here says nothing");
         return;
     }
+    // A large block that was freed has the C library keep memory for the vectors of the Rust, as in a service that runs for long; else
+    // it is mapped anew for every mesh, and the Rust takes more than twice its time on small ones.
+    drop(black_box(vec![1u8; 31 << 20]));
     println!("microseconds; R residues, of which some are present; S segments");
     println!(
         "{:>6} {:>8} {:>8} {:>8} {:>10} {:>10} {:>10} {:>10} {:>10} {:>10} {:>10}",
