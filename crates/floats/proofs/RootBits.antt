@@ -2,11 +2,11 @@
 use mathlib.Core.Path.{_≡_, refl, sym, ap, _∙_, subst}
 use mathlib.Core.Logic.{_⊎_, inl, inr}
 use Prim.Native.Nat.{ℕ, zero, suc, _+_, _-_, _*_, _/_, _%_, _^_, _≤_, _<_, min}
-use native.Mathlib.Nat.{le-trans, le-of-eq, le-of-suc-le-suc, lt-of-lt-of-le, lt-of-le-of-lt, mul-one, mul-assoc, mul-pos, mul-le-mul, mul-le-mul-right, mul-lt-mul-of-pos-right, mod-eq-of-lt, eq-or-lt-of-le, suc-add}
+use native.Mathlib.Nat.{le-trans, le-of-eq, le-of-suc-le-suc, lt-of-lt-of-le, lt-of-le-of-lt, mul-one, mul-assoc, mul-comm, mul-add, add-mul, mul-pos, mul-le-mul, mul-le-mul-right, mul-lt-mul-of-pos-right, mod-eq-of-lt, eq-or-lt-of-le, suc-add}
 use native.Mathlib.Numerals.{add-one}
 use native.Mathlib.Omega.{arith}
-use mathlib.Core.Bool.{Bool, true, false, not, true≢false}
-use lib.Dec.{T, leb, ltb, ltb→lt, nltb→le, le→leb, lit≤}
+use mathlib.Core.Bool.{Bool, true, false, not, _&&_, true≢false}
+use lib.Dec.{T, leb, leb→le, nleb→lt, ltb, ltb→lt, nltb→le, le→leb, lit≤}
 use lib.Arith.{lt→nleb}
 use lib.Pow.{pow-add, pow-pos, pow-mono, shl-exact}
 use lib.Count.{leadingZeros, leading-top}
@@ -105,6 +105,63 @@ normal-is b r lo hi h =
 
     swap : (t : ℕ) → 2 ^ 23 + t ≡ t + 2 ^ 23
     swap t = omega arith
+
+-- ---- near one
+-- 2 ^ 23 + j and 2 ^ 24 - j are the nearest roots, where j is at most 2 ^ 11 and its square so small that it is rounded away
+square : (a j : ℕ) → (a + j) * (a + j) ≡ a * a + a * j + (a * j + j * j)
+square a j = mul-add (a + j) a j ∙ sum (add-mul a j a ∙ ap (λ (x : ℕ). a * a + x) (mul-comm j a)) (add-mul a j j)
+  where
+    sum : {w x y z : ℕ} → w ≡ x → y ≡ z → w + y ≡ x + z
+    sum p q = omega arith
+
+small-square : (j : ℕ) → j ≤ 2048 → j * j ≤ 2048 * 2048
+small-square j h = mul-le-mul h h
+
+above-one : (k : ℕ) → k ≤ 4096 → Near ((k + 2 ^ 23) * 2 ^ 23) (2 ^ 23 + k / 2)
+above-one k h = go (k / 2) (square (2 ^ 23) (k / 2)) (small-square (k / 2) (omega arith)) (omega arith) (omega arith)
+  where
+    go : (j : ℕ) → (2 ^ 23 + j) * (2 ^ 23 + j) ≡ 2 ^ 23 * 2 ^ 23 + 2 ^ 23 * j + (2 ^ 23 * j + j * j) → j * j ≤ 2048 * 2048 → 2 * j ≤ k → k ≤ 2 * j + 1 → Near ((k + 2 ^ 23) * 2 ^ 23) (2 ^ 23 + j)
+    go j s t a b = (omega arith, omega arith)
+
+below-one : (r j k : ℕ) → r + j ≡ 2 ^ 24 → k ≤ 2 * j → 2 * j ≤ k + 1 → k ≤ 4096 → Near ((2 ^ 24 - k) * 2 ^ 24) r
+below-one r j k e a b h =
+    go (square r j) (ap (λ (x : ℕ). x * x) e) (sym (add-mul r j j) ∙ ap (λ (x : ℕ). x * j) e) (small-square j (omega arith)) (root-least j)
+  where
+    root-least : (j : ℕ) → j ≤ j * j
+    root-least zero = omega arith
+    root-least (suc j) = le-trans (le-of-eq (sym (mul-one (suc j)))) (mul-le-mul {n₁ = suc j} (le-of-eq refl) (omega arith))
+
+    go : (r + j) * (r + j) ≡ r * r + r * j + (r * j + j * j) → (r + j) * (r + j) ≡ 2 ^ 24 * 2 ^ 24 → r * j + j * j ≡ 2 ^ 24 * j → j * j ≤ 2048 * 2048 → j ≤ j * j → Near ((2 ^ 24 - k) * 2 ^ 24) r
+    go s w u t l = (omega arith, omega arith)
+
+pub near-one-is : (b : ℕ) → 0x3f7f_f000 ≤ b → b ≤ 0x3f80_1000 → (b + 0x3f80_0000) / 2 ≡ toBits binary32 (root binary32 (ofBits binary32 b))
+near-one-is b lo hi = normal-is b ((b + 0x3f80_0000) / 2) (omega arith) (omega arith) (go (leb (127 * 2 ^ 23) b) (leb→le (127 * 2 ^ 23) b) (nleb→lt (127 * 2 ^ 23) b))
+  where
+    m : ℕ
+    m = b % 2 ^ 23 + 2 ^ 23
+
+    to : (g q : ℕ) → b / 2 ^ 23 + 127 ≡ g → 2 ≤ g → g < 400 → Near (m * 2 ^ (23 + g % 2)) q → q ≤ 2 ^ 24 → (g / 2 - 1) * 2 ^ 23 + q ≡ (b + 0x3f80_0000) / 2
+        → (b + 0x3f80_0000) / 2 ≡ toBits binary32 (nearestRoot binary32 (m * 2 ^ (b / 2 ^ 23 + 127 + 21)))
+    to g q e G H n Q s = sym s ∙ positive-is m g (omega arith) (omega arith) q G H n Q ∙ ap (λ (x : ℕ). toBits binary32 (nearestRoot binary32 (m * 2 ^ (x + 21)))) (sym e)
+
+    go : (t : Bool) → (T t → 127 * 2 ^ 23 ≤ b) → (T (not t) → b < 127 * 2 ^ 23) → (b + 0x3f80_0000) / 2 ≡ toBits binary32 (nearestRoot binary32 (m * 2 ^ (b / 2 ^ 23 + 127 + 21)))
+    go true p q =
+        let l = p tt in
+        to 254 (2 ^ 23 + b % 2 ^ 23 / 2) (omega arith) (omega arith) (omega arith) (above-one (b % 2 ^ 23) (omega arith)) (omega arith) (omega arith)
+    go false p q =
+        let l = q tt in
+        let k : ℕ = 127 * 2 ^ 23 - b in
+        to 253 (2 ^ 24 - (k + 1) / 2) (omega arith) (omega arith) (omega arith)
+        (subst (λ (x : ℕ). Near (x * 2 ^ 24) (2 ^ 24 - (k + 1) / 2)) (omega arith) (below-one (2 ^ 24 - (k + 1) / 2) ((k + 1) / 2) k (omega arith) (omega arith) (omega arith) (omega arith)))
+        (omega arith) (omega arith)
+
+pub between-is : (b : ℕ) → leb 0x3f7f_f000 b && leb b 0x3f80_1000 ≡ true → (0x3f7f_f000 ≤ b) × (b ≤ 0x3f80_1000)
+between-is b e = go (leb 0x3f7f_f000 b) (leb b 0x3f80_1000) (leb→le 0x3f7f_f000 b) (leb→le b 0x3f80_1000) e
+  where
+    go : (s t : Bool) → (T s → 0x3f7f_f000 ≤ b) → (T t → b ≤ 0x3f80_1000) → s && t ≡ true → (0x3f7f_f000 ≤ b) × (b ≤ 0x3f80_1000)
+    go true true p q e = (p tt, q tt)
+    go true false p q e = absurd (true≢false (sym e))
+    go false t p q e = absurd (true≢false (sym e))
 
 -- ---- below the normal range
 -- b has 32 - z digits, so b * 2 ^ (z - 8) has 24

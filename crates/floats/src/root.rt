@@ -1,7 +1,9 @@
 // The nearest f32 to a square root, over whole numbers. A guess, of which nothing is proved but its size, is the answer
 // where two whole-number tests say so, and is walked from otherwise.
 ghost use mathlib.Core.Path.{_≡_};
+ghost use mathlib.Core.Bool.{_&&_};
 ghost use Prim.Native.Nat.{_+_, _*_, _/_, _%_, _^_, _<_, _≤_};
+ghost use lib.Dec.{leb};
 ghost use lib.Ieee.{binary32, toBits, ofBits};
 ghost use Rattle.floats.specs.Floats.{root, nearestRoot};
 
@@ -134,9 +136,30 @@ fn special(b: u32) -> u32
     0x7fc0_0000
 }
 
+fn is_near_one(b: u32) -> bool
+    ensures { λ r. ⌜ r ≡ (leb 0x3f7f_f000 b && leb b 0x3f80_1000) ⌝ }
+{
+    if b < 0x3f7f_f000 {
+        return false;
+    }
+    b <= 0x3f80_1000
+}
+
+// By the patterns, the root of a number near one is half as far from one, to the whole number below. Most roots are of a unit vector's
+// square, and need no guess.
+fn near_one(b: u32) -> u32
+    requires { ⌜ (0x3f7f_f000 ≤ b) × (b ≤ 0x3f80_1000) ⌝ }
+    ensures { λ r. ⌜ r ≡ toBits binary32 (root binary32 (ofBits binary32 b)) ⌝ }
+{
+    (b + 0x3f80_0000) / 2
+}
+
 pub fn root_bits(b: u32) -> u32
     ensures { λ r. ⌜ r ≡ toBits binary32 (root binary32 (ofBits binary32 b)) ⌝ }
 {
+    if is_near_one(b) {
+        return near_one(b);
+    }
     if 0x7f80_0000 <= b {
         return special(b);
     }

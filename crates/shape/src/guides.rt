@@ -39,10 +39,11 @@ pub fn upright(v: Vec3, tangent: Vec3, limit: f32) -> Vec3
     ensures { λ r. ⌜ r ≡ upright v tangent limit ⌝ }
 {
     let perp = across(v, tangent);
-    if perp.length() < limit {
+    let l = perp.length();
+    if l < limit {
         return fallback_perp(tangent);
     }
-    perp.normalised()
+    perp.normalised_by(l)
 }
 
 // The Cα→O direction, made perpendicular to the tangent.
@@ -86,14 +87,15 @@ pub fn tangent_of(before: Vec3, after: Vec3) -> Vec3
 pub fn directed(v: Vec3) -> Vec3
     ensures { λ r. ⌜ r ≡ directed v ⌝ }
 {
-    if v.length() < 1e-8 {
+    let l = v.length();
+    if l < 1e-8 {
         return Vec3 {
             x: 0.0,
             y: 1.0,
             z: 0.0,
         };
     }
-    v.normalised()
+    v.normalised_by(l)
 }
 
 pub fn agreeing(before: Vec3, g: Vec3) -> Vec3

@@ -1,12 +1,13 @@
 -- Turns and sequences of the writers of vertices, over plain lists.
 use mathlib.Core.Path.{_≡_, refl, sym, ap, _∙_}
-use mathlib.Core.List.{List, [], _∷_, _++_, append-assoc}
-use Prim.Native.Nat.{ℕ, suc, _+_, _*_, _-_, _≤_}
+use mathlib.Core.List.{List, [], _∷_, _++_, append-assoc, append-nil}
+use Prim.Native.Nat.{ℕ, zero, suc, _+_, _*_, _-_, _/_, _%_, _≤_, _<_}
 use native.Mathlib.Omega.{arith}
 use native.Mathlib.Nat.{mul-assoc}
 use native.Mathlib.Numerals.{add-one}
 use lib.Ieee.{Float}
 use lib.ListN.{length, take, drop, length-append}
+use borrow.Author.Tests.{lt-ltb}
 use lib.Seq.{take-at, drop-at, length-take-le}
 use Rattle.vectors.specs.declared.Vec3.{Vec3}
 use Rattle.vectors.specs.Vec.{floats, vecAt}
@@ -16,6 +17,9 @@ use Rattle.shape.specs.declared.Kind.{Kind}
 use Rattle.shape.specs.declared.Spoke.{Spoke}
 use Rattle.shape.specs.declared.Oxygen.{Oxygen}
 use Rattle.shape.specs.Ring.{halfSizes, spokesOf}
+use Rattle.shape.specs.Guide.{between}
+use Rattle.course.specs.declared.Frame.{Frame}
+use Rattle.course.specs.Samples.{spanOf, spanAt, paramAt, frameOf, frameAt}
 use Rattle.course.specs.Residues.{oxygenAt, guidesOf, pointsOf}
 use Rattle.course.proofs.Laws.{rest, length-guides-of, length-points-of}
 use Rattle.skin.specs.Post.{Room, Wrote, Course, Residues}
@@ -46,6 +50,49 @@ wrote-turn {p₀} {n₀} {t₀} f g h m hf hg hh v w k b a e =
       norm = turn g (m * 3) hg n₀ (3 * v) (3 * w) k (b .norm) (a .norm) e3;
       tag = turn h m hh t₀ v w k (b .tag) (a .tag) e;
     }
+
+-- as many lists as f gives, and then c more
+upto-more : {A : Type 0} (f g : ℕ → List A) (k c : ℕ) → ((j : ℕ) → g j ≡ f (k + j)) → upto f k ++ upto g c ≡ upto f (k + c)
+unfolding upto
+upto-more f g k zero e = append-nil (upto f k) ∙ ap (upto f) (sum k)
+  where
+    sum : (k : ℕ) → k ≡ k + zero
+    sum k = omega arith
+upto-more f g k (suc c) e =
+    sym (append-assoc (upto f k) (upto g c) (g c)) ∙ ap (λ (l : List _). l ++ g c) (upto-more f g k c e)
+    ∙ ap (λ (l : List _). upto f (k + c) ++ l) (e c) ∙ ap (upto f) (sum k c)
+  where
+    sum : (k c : ℕ) → suc (k + c) ≡ k + suc c
+    sum k c = omega arith
+
+-- a turn of a loop that writes c times m vertices to the three
+pub wrote-more : {p₀ n₀ : List Float} {t₀ : List ℕ} {p n p′ n′ : List Float} {t t′ : List ℕ} (f g f′ g′ : ℕ → List Float) (h h′ : ℕ → List ℕ) (m : ℕ)
+    → ((k : ℕ) → length (f k) ≡ m * 3) → ((k : ℕ) → length (g k) ≡ m * 3) → ((k : ℕ) → length (h k) ≡ m)
+    → (v w k c : ℕ) → ((j : ℕ) → f′ j ≡ f (k + j)) → ((j : ℕ) → g′ j ≡ g (k + j)) → ((j : ℕ) → h′ j ≡ h (k + j))
+    → Wrote p n t w (upto f′ c) (upto g′ c) (upto h′ c) p′ n′ t′ → Wrote p₀ n₀ t₀ v (upto f k) (upto g k) (upto h k) p n t
+    → w ≡ v + k * m
+    → Wrote p₀ n₀ t₀ v (upto f (k + c)) (upto g (k + c)) (upto h (k + c)) p′ n′ t′
+wrote-more {p₀} {n₀} {t₀} {p} {n} {p′} {n′} {t} {t′} f g f′ g′ h h′ m hf hg hh v w k c ef eg eh b a e =
+    let lf = length-upto f (m * 3) k (λ j _. hf j) in
+    let lg = length-upto g (m * 3) k (λ j _. hg j) in
+    let lh = length-upto h m k (λ j _. hh j) in
+    let s = mul-assoc k m 3 in
+    rw (upto-more f f′ k c ef, upto-more g g′ k c eg, upto-more h h′ k c eh) at
+    (wrote-next v w (upto f k) (upto f′ c) (upto g k) (upto g′ c) (upto h k) (upto h′ c) b a (omega arith) (omega arith) (omega arith))
+
+-- the frame of a sample that lies in the same span as sample `from`, from what that span gives
+span-there : (n from j : ℕ) → from % 8 + j < 8 → from / 8 + 1 < n → spanAt n (from + j) ≡ from / 8
+unfolding spanAt
+span-there n from j l h = rw (same from j l, lt-ltb (from / 8 + 1) n h)
+  where
+    same : (from j : ℕ) → from % 8 + j < 8 → (from + j) / 8 ≡ from / 8
+    same from j l = omega arith
+
+pub on-span : (p g : List Float) (n from j : ℕ) {q : List Vec3} {a b m : Vec3} {t : Float} {f : Frame} → from % 8 + j < 8 → from / 8 + 1 < n
+    → q ≡ spanOf p n (from / 8) → a ≡ vecAt g (from / 8) → b ≡ vecAt g (from / 8 + 1) → t ≡ paramAt n (from + j) → m ≡ between a b t → f ≡ frameOf q t m
+    → f ≡ frameAt p g n (from + j)
+unfolding frameAt
+on-span p g n from j l h eq ea eb et em ef = ef ∙ rw (em, eq, ea, eb, et, span-there n from j l h)
 
 -- the three keep their lengths
 pub room : {p₀ n₀ : List Float} {t₀ : List ℕ} {p n : List Float} {t : List ℕ} (v : ℕ) (x y : List Float) (z : List ℕ) (m : ℕ)

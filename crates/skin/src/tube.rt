@@ -2,18 +2,22 @@
 use crate::rings::put_capped;
 use crate::rings::put_ring;
 use course::residues::lay_course;
+use course::samples::frame;
 use course::samples::frame_at;
+use course::samples::param_at;
 use course::samples::ring;
+use course::samples::span;
 use course::samples::tag_at;
 use shape::Kind;
 use shape::Spoke;
+use shape::guides::between;
 use shape::section::half_sizes;
 use shape::section::spokes;
 use vectors::Vec3;
 use vectors::get_vec;
 ghost use mathlib.Core.Path.{_≡_};
 ghost use mathlib.Core.List.{[], _∷_, _++_};
-ghost use Prim.Native.Nat.{ℕ, _+_, _*_, _-_, _<_, _≤_};
+ghost use Prim.Native.Nat.{ℕ, _+_, _*_, _-_, _/_, _%_, _<_, _≤_};
 ghost use lib.ListN.{length, take, drop};
 ghost use Rattle.vectors.specs.Vec.{floats};
 ghost use Rattle.buffers.specs.Put.{upto};
@@ -50,7 +54,48 @@ fn start_cap(
     put_capped(positions, normals, tags, v, r, tag, p, back, tag);
 }
 
-// The rings between the first and the last.
+// The rings of `count` samples, all of one span, from sample `from` on. A span's control points and guides are read once, and what they give
+// alone need not be computed at each sample.
+fn span_rings(
+    points: &[f32],
+    guides: &[f32],
+    positions: &mut [f32],
+    normals: &mut [f32],
+    tags: &mut [u32],
+    n: usize,
+    kind: Kind,
+    v: usize,
+    first: u32,
+    spokes: [Spoke; 8],
+    from: usize,
+    count: usize,
+)
+    requires { ⌜ Course (now points) (now guides) n first kind spokes × Room (now positions) (now normals) (now tags) (v + 8 * count) ⌝ }
+    requires { ⌜ (from % 8 + count ≤ 8) × (from / 8 + 1 < n) ⌝ }
+    ensures { λ _. ⌜ Wrote (now (positions .entry)) (now (normals .entry)) (now (tags .entry)) v
+        (upto (λ (j : ℕ). ringPositions kind (now (points .entry)) (now (guides .entry)) n (from + j)) count)
+        (upto (λ (j : ℕ). ringNormals kind (now (points .entry)) (now (guides .entry)) n (from + j)) count)
+        (upto (λ (j : ℕ). ringTags first n (from + j)) count)
+        (now (positions .exit)) (now (normals .exit)) (now (tags .exit)) ⌝ }
+{
+    let i = from / 8;
+    let q = span(points, n, i);
+    let a = get_vec(guides, i);
+    let b = get_vec(guides, i + 1);
+    let mut j = 0usize;
+    let mut at = v;
+    while j < count {
+        let s = from + j;
+        let t = param_at(n, s);
+        let f = frame(q, t, between(a, b, t));
+        let r = ring(f, kind, n, s, spokes);
+        put_ring(positions, normals, tags, at, r, tag_at(first, n, s));
+        j += 1;
+        at += 8;
+    }
+}
+
+// The rings between the first and the last, span by span.
 fn later_rings(
     points: &[f32],
     guides: &[f32],
@@ -74,11 +119,24 @@ fn later_rings(
     let mut s = 0usize;
     let mut at = v;
     while s < total {
-        let f = frame_at(points, guides, n, s + 1);
-        let r = ring(f, kind, n, s + 1, spokes);
-        put_ring(positions, normals, tags, at, r, tag_at(first, n, s + 1));
-        s += 1;
-        at += 8;
+        let from = s + 1;
+        let count = 8 - from % 8;
+        span_rings(
+            points,
+            guides,
+            positions,
+            normals,
+            tags,
+            n,
+            kind,
+            at,
+            first,
+            spokes,
+            from,
+            count,
+        );
+        s += count;
+        at += 8 * count;
     }
 }
 

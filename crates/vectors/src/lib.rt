@@ -2,7 +2,7 @@
 ghost use mathlib.Core.Path.{_≡_};
 ghost use Prim.Native.Nat.{_+_, _*_, _≤_};
 ghost use lib.ListN.{length};
-ghost use Rattle.vectors.specs.Vec.{vadd, vsub, vscale, vdot, vcross, vlength, normalised, floats, vecAt};
+ghost use Rattle.vectors.specs.Vec.{vadd, vsub, vscale, vdot, vcross, vlength, normalisedBy, normalised, floats, vecAt};
 ghost use Rattle.buffers.specs.Put.{put};
 
 pub struct Vec3 {
@@ -64,11 +64,16 @@ impl Vec3 {
         floats::root::square_root(self.dot(self))
     }
 
-    // Length 0 is a case of its own: it has no direction.
     pub fn normalised(self) -> Vec3
         ensures { λ r. ⌜ r ≡ normalised self ⌝ }
     {
-        let l = self.length();
+        self.normalised_by(self.length())
+    }
+
+    // The same, where the length is at hand. Length 0 is a case of its own: it has no direction.
+    pub fn normalised_by(self, l: f32) -> Vec3
+        ensures { λ r. ⌜ r ≡ normalisedBy self l ⌝ }
+    {
         if l == 0.0 {
             return Vec3 {
                 x: 0.0,

@@ -1,3 +1,4 @@
+use Rattle.vectors.specs.Vec.{normalised}
 use Rattle.shape.specs.Guide.{directed}
 use borrow.Author.Needs.{needs}
 use Rattle.shape.proofs.guides.directed.Statement.{statement}
@@ -10,12 +11,12 @@ returns : tie.Need-returns
 unfolding directed
 returns c = rw (← c .before .length .ensures, c .if1 .taken)
 
-normalised-requires : tie.Need-normalised-requires
-normalised-requires c κs = search needs
+normalised-by-requires : tie.Need-normalised-by-requires
+normalised-by-requires c κs = search needs
 
 returns-2 : tie.Need-returns-2
-unfolding directed
-returns-2 c = rw (← c .before .before .length .ensures, c .before .if1 .left) (c .normalised .ensures)
+unfolding directed normalised
+returns-2 c = rw (← c .before .before .length .ensures, c .before .if1 .left) (c .normalised-by .ensures)
 
 pub directed-spec : {M : Type 1} → statement M
-directed-spec = tie.close (tie.spec length-requires returns normalised-requires returns-2)
+directed-spec = tie.close (tie.spec length-requires returns normalised-by-requires returns-2)

@@ -1,14 +1,13 @@
 use borrow.Author.Needs.{needs}
-use mathlib.Core.Path.{_≡_, refl}
-use Prim.Native.Nat.{ℕ, _≤_, _-_, _+_, _*_}
+use mathlib.Core.Path.{_≡_, refl, ap}
+use Prim.Native.Nat.{ℕ, _≤_, _-_, _+_, _*_, _%_}
 use native.Mathlib.Omega.{arith}
 use denote.Ref.{now}
 use Rattle.buffers.specs.Put.{put, upto}
 use Rattle.buffers.proofs.Puts.{kept}
-use Rattle.course.specs.Samples.{ringAt}
 use Rattle.skin.specs.Post.{Wrote}
 use Rattle.skin.specs.Tube.{ringPositions, ringNormals, ringTags}
-use Rattle.skin.proofs.Laws.{wrote-turn, room, length-positions, length-normals, length-tags}
+use Rattle.skin.proofs.Laws.{wrote-more, room, length-positions, length-normals, length-tags}
 use Rattle.skin.proofs.tube.later_rings.Statement.{statement}
 use Rattle.skin.proofs.tube.later_rings.Tie as tie
 
@@ -31,42 +30,36 @@ loop-holds : tie.Need-loop-holds Inv-loop μ-loop
 unfolding put upto
 loop-holds c = (omega arith, omega arith, record { pos = refl; norm = refl; tag = refl })
 
-add-frame-at : tie.Need-add-frame-at Inv-loop μ-loop
-add-frame-at c = search needs
+add-from : tie.Need-add-from Inv-loop μ-loop
+add-from c = search needs
 
-frame-at-requires : tie.Need-frame-at-requires Inv-loop μ-loop
-frame-at-requires c κs = search needs
+sub-count : tie.Need-sub-count Inv-loop μ-loop
+sub-count c = search needs
 
-add-ring : tie.Need-add-ring Inv-loop μ-loop
-add-ring c = search needs
-
-ring-requires : tie.Need-ring-requires Inv-loop μ-loop
-ring-requires c κs = search needs
-
-add-tag-at : tie.Need-add-tag-at Inv-loop μ-loop
-add-tag-at c = search needs
-
-tag-at-requires : tie.Need-tag-at-requires Inv-loop μ-loop
-tag-at-requires c κs = search needs
-
-put-ring-requires : tie.Need-put-ring-requires Inv-loop μ-loop
-put-ring-requires c κs = room _ _ _ _ _ (c .before .before .before .before .before .before .before .loop .inv .2) (c .before .before .before .before .before .before .before .before .before .before .before .before .before .pre .1) (c .before .before .before .before .before .before .before .loop .at + 8) (omega arith)
+span-rings-requires : tie.Need-span-rings-requires Inv-loop μ-loop
+span-rings-requires c κs = ((c .before .before .before .before .before .before .before .before .before .before .pre .0, room _ _ _ _ _ (c .before .before .before .before .loop .inv .2) (c .before .before .before .before .before .before .before .before .before .before .pre .1) (c .before .before .before .before .loop .at + 8 * (8 - (c .before .before .before .before .loop .s + 1) % 8)) (omega arith)), (omega arith, omega arith))
 
 add-s : tie.Need-add-s Inv-loop μ-loop
-add-s c = omega (arith, c .before .before .before .before .before .before .before .before .before .before .before .before .before .before .loop, c .before .before .before .before .before .before .before .before .before .before .before .before .before .loop-test, c .before .before .before .before .before .before .before .before .before .before .before .before .before .before .before .before .before .before .before .before)
+add-s c = omega (arith, c .before .before .before .before .before .before .before .before .before .before .before .loop, c .before .before .before .before .before .before .before .before .before .before .loop-test, c .before .before .before .before .before .before .before .before .before .before .before .before .before .before .before .before .before)
+
+mul-at : tie.Need-mul-at Inv-loop μ-loop
+mul-at c = omega (arith, c .before .before .before .before .before .before .before .before .before .before .before .loop, c .before .before .before .before .before .before .before .before .before .before .loop-test, c .before .before .before .before .before .before .before .before .before .before .before .before .before .before .before .before .before)
 
 add-at : tie.Need-add-at Inv-loop μ-loop
-add-at c = omega (arith, c .before .before .before .before .before .before .before .before .before .before .before .before .before .before .loop, c .before .before .before .before .before .before .before .before .before .before .before .before .before .loop-test, c .before .before .before .before .before .before .before .before .before .before .before .before .before .before .before .before .before .before .before .before)
+add-at c = omega (arith, c .before .before .before .before .before .before .before .before .before .before .before .loop, c .before .before .before .before .before .before .before .before .before .before .loop-test, c .before .before .before .before .before .before .before .before .before .before .before .before .before .before .before .before .before)
 
 loop-less : tie.Need-loop-less Inv-loop μ-loop
-loop-less c = omega (arith, c .before .before .before .before .before .before .before .before .before .before .before .before .before .before .loop, c .before .before .before .before .before .before .before .before .before .before .before .before .before .loop-test, c .before .before .before .before .before .before .before .before .before .before .before .before .before .before .before .before .before .before .before .before)
+loop-less c = omega (arith, c .before .before .before .before .before .before .before .before .before .before .before .loop, c .before .before .before .before .before .before .before .before .before .before .loop-test, c .before .before .before .before .before .before .before .before .before .before .before .before .before .before .before .before .before)
 
 loop-again : tie.Need-loop-again Inv-loop μ-loop
-unfolding ringPositions ringNormals ringTags ringAt
-loop-again c = let p = now (c .before .before .before .before .before .before .before .before .before .before .before .before .before .before .before .before .before .before .before .before .args .points) in
-    let g = now (c .before .before .before .before .before .before .before .before .before .before .before .before .before .before .before .before .before .before .before .before .args .guides) in
-    let n = c .before .before .before .before .before .before .before .before .before .before .before .before .before .before .before .before .before .before .before .before .args .n in
-    (omega arith, omega arith, wrote-turn _ _ _ 8 (λ s. length-positions (c .before .before .before .before .before .before .before .before .before .before .before .before .before .before .before .before .before .before .before .before .args .kind) p g n (s + 1)) (λ s. length-normals (c .before .before .before .before .before .before .before .before .before .before .before .before .before .before .before .before .before .before .before .before .args .kind) p g n (s + 1)) (λ s. length-tags (c .before .before .before .before .before .before .before .before .before .before .before .before .before .before .before .before .before .before .before .before .args .first) n (s + 1)) _ _ (c .before .before .before .before .before .before .before .before .before .before .before .before .before .before .loop .s) (rw (c .before .before .before .before .before .before .before .before .before .before .before .ring .ensures, c .before .before .before .before .before .before .before .before .before .before .before .before .frame-at .ensures, c .before .before .before .before .before .before .before .tag-at .ensures) at (c .before .before .before .before .before .before .put-ring .ensures)) (c .before .before .before .before .before .before .before .before .before .before .before .before .before .before .loop .inv .2) (c .before .before .before .before .before .before .before .before .before .before .before .before .before .before .loop .inv .1))
+loop-again c = let p = now (c .before .before .before .before .before .before .before .before .before .before .before .before .before .before .before .before .before .args .points) in
+    let g = now (c .before .before .before .before .before .before .before .before .before .before .before .before .before .before .before .before .before .args .guides) in
+    let n = c .before .before .before .before .before .before .before .before .before .before .before .before .before .before .before .before .before .args .n in
+    let kind = c .before .before .before .before .before .before .before .before .before .before .before .before .before .before .before .before .before .args .kind in
+    let first = c .before .before .before .before .before .before .before .before .before .before .before .before .before .before .before .before .before .args .first in
+    let s = c .before .before .before .before .before .before .before .before .before .before .before .loop .s in
+    let step : (j : ℕ) → s + 1 + j ≡ s + j + 1 = λ j. omega arith in
+    (omega (arith, c .before .before .before .before .before .before .before .before .before .before .before .loop, c .before .before .before .before .before .before .before .before .before .before .loop-test, c .before .before .before .before .before .before .before .before .before .before .before .before .before .before .before .before .before), omega (arith, c .before .before .before .before .before .before .before .before .before .before .before .loop, c .before .before .before .before .before .before .before .before .before .before .loop-test, c .before .before .before .before .before .before .before .before .before .before .before .before .before .before .before .before .before), wrote-more _ _ _ _ _ _ 8 (λ s. length-positions kind p g n (s + 1)) (λ s. length-normals kind p g n (s + 1)) (λ s. length-tags first n (s + 1)) _ _ s _ (λ j. ap (ringPositions kind p g n) (step j)) (λ j. ap (ringNormals kind p g n) (step j)) (λ j. ap (ringTags first n) (step j)) (c .before .before .before .before .before .before .span-rings .ensures) (c .before .before .before .before .before .before .before .before .before .before .before .loop .inv .2) (c .before .before .before .before .before .before .before .before .before .before .before .loop .inv .1))
 
 same-length : tie.Need-same-length Inv-loop μ-loop
 same-length c = kept _ _ _ (c .before .loop .inv .2 .pos)
@@ -91,14 +84,11 @@ later-rings-spec =
     mul-total
     sub-total-2
     loop-holds
-    add-frame-at
-    frame-at-requires
-    add-ring
-    ring-requires
-    add-tag-at
-    tag-at-requires
-    put-ring-requires
+    add-from
+    sub-count
+    span-rings-requires
     add-s
+    mul-at
     add-at
     loop-less
     loop-again

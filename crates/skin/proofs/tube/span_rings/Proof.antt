@@ -1,0 +1,114 @@
+use borrow.Author.Needs.{needs}
+use mathlib.Core.Path.{_≡_, refl}
+use Prim.Native.Nat.{ℕ, _≤_, _-_, _+_, _*_}
+use native.Mathlib.Omega.{arith}
+use denote.Ref.{now}
+use Rattle.buffers.specs.Put.{put, upto}
+use Rattle.buffers.proofs.Puts.{kept}
+use Rattle.course.specs.Samples.{ringAt}
+use Rattle.skin.specs.Post.{Wrote}
+use Rattle.skin.specs.Tube.{ringPositions, ringNormals, ringTags}
+use Rattle.skin.proofs.Laws.{wrote-turn, room, on-span, length-positions, length-normals, length-tags}
+use Rattle.skin.proofs.tube.span_rings.Statement.{statement}
+use Rattle.skin.proofs.tube.span_rings.Tie as tie
+
+abbrev Inv-loop : tie.InvT-loop
+Inv-loop points guides positions₀ normals₀ tags₀ n kind v first spokes from count i q a b j₀ at₀ positions normals tags j at = (j ≤ count) × (at ≡ v + j * 8) × Wrote positions₀ normals₀ tags₀ v (upto (λ (j : ℕ). ringPositions kind points guides n (from + j)) j) (upto (λ (j : ℕ). ringNormals kind points guides n (from + j)) j) (upto (λ (j : ℕ). ringTags first n (from + j)) j) positions normals tags
+
+abbrev μ-loop : tie.MeasureT-loop
+μ-loop points guides positions₀ normals₀ tags₀ n kind v first spokes from count i q a b j₀ at₀ positions normals tags j at = count - j
+
+span-requires : tie.Need-span-requires Inv-loop μ-loop
+span-requires c κs = search needs
+
+get-vec-requires : tie.Need-get-vec-requires Inv-loop μ-loop
+get-vec-requires c κs = search needs
+
+add-get-vec : tie.Need-add-get-vec Inv-loop μ-loop
+add-get-vec c = search needs
+
+get-vec-requires-2 : tie.Need-get-vec-requires-2 Inv-loop μ-loop
+get-vec-requires-2 c κs = search needs
+
+loop-holds : tie.Need-loop-holds Inv-loop μ-loop
+unfolding put upto
+loop-holds c = (omega arith, omega arith, record { pos = refl; norm = refl; tag = refl })
+
+add-s : tie.Need-add-s Inv-loop μ-loop
+add-s c = search needs
+
+param-at-requires : tie.Need-param-at-requires Inv-loop μ-loop
+param-at-requires c κs = search needs
+
+between-requires : tie.Need-between-requires Inv-loop μ-loop
+between-requires c κs = search needs
+
+frame-requires : tie.Need-frame-requires Inv-loop μ-loop
+frame-requires c κs = search needs
+
+ring-requires : tie.Need-ring-requires Inv-loop μ-loop
+ring-requires c κs = (c .before .before .before .before .before .before .before .before .before .before .before .before .before .pre .0 .0 .two, c .before .before .before .before .before .before .before .before .before .before .before .before .before .pre .0 .0 .most, omega (arith, c .before .before .before .before .loop, c .before .before .before .loop-test, c .before .before .before .before .before .before .before .before .before .before .before .before .before), c .before .before .before .before .before .before .before .before .before .before .before .before .before .pre .0 .0 .same)
+
+tag-at-requires : tie.Need-tag-at-requires Inv-loop μ-loop
+tag-at-requires c κs = (c .before .before .before .before .before .before .before .before .before .before .before .before .before .before .before .before .before .pre .0 .0 .two, omega (arith, c .before .before .before .before .before .before .before .before .loop, c .before .before .before .before .before .before .before .loop-test, c .before .before .before .before .before .before .before .before .before .before .before .before .before .before .before .before .before), c .before .before .before .before .before .before .before .before .before .before .before .before .before .before .before .before .before .pre .0 .0 .low)
+
+put-ring-requires : tie.Need-put-ring-requires Inv-loop μ-loop
+put-ring-requires c κs = room _ _ _ _ _ (c .before .before .before .before .before .before .before .before .before .loop .inv .2) (c .before .before .before .before .before .before .before .before .before .before .before .before .before .before .before .before .before .before .pre .0 .1) (c .before .before .before .before .before .before .before .before .before .loop .at + 8) (omega arith)
+
+add-j : tie.Need-add-j Inv-loop μ-loop
+add-j c = omega (arith, c .before .before .before .before .before .before .before .before .before .before .before .before .before .before .before .before .loop, c .before .before .before .before .before .before .before .before .before .before .before .before .before .before .before .loop-test, c .before .before .before .before .before .before .before .before .before .before .before .before .before .before .before .before .before .before .before .before .before .before .before .before .before)
+
+add-at : tie.Need-add-at Inv-loop μ-loop
+add-at c = omega (arith, c .before .before .before .before .before .before .before .before .before .before .before .before .before .before .before .before .loop, c .before .before .before .before .before .before .before .before .before .before .before .before .before .before .before .loop-test, c .before .before .before .before .before .before .before .before .before .before .before .before .before .before .before .before .before .before .before .before .before .before .before .before .before)
+
+loop-less : tie.Need-loop-less Inv-loop μ-loop
+loop-less c = omega (arith, c .before .before .before .before .before .before .before .before .before .before .before .before .before .before .before .before .loop, c .before .before .before .before .before .before .before .before .before .before .before .before .before .before .before .loop-test, c .before .before .before .before .before .before .before .before .before .before .before .before .before .before .before .before .before .before .before .before .before .before .before .before .before)
+
+loop-again : tie.Need-loop-again Inv-loop μ-loop
+unfolding ringPositions ringNormals ringTags ringAt
+loop-again c = let p = now (c .before .before .before .before .before .before .before .before .before .before .before .before .before .before .before .before .before .before .before .before .before .before .before .before .before .args .points) in
+    let g = now (c .before .before .before .before .before .before .before .before .before .before .before .before .before .before .before .before .before .before .before .before .before .before .before .before .before .args .guides) in
+    let n = c .before .before .before .before .before .before .before .before .before .before .before .before .before .before .before .before .before .before .before .before .before .before .before .before .before .args .n in
+    let from = c .before .before .before .before .before .before .before .before .before .before .before .before .before .before .before .before .before .before .before .before .before .before .before .before .before .args .from in
+    let f = on-span p g n from (c .before .before .before .before .before .before .before .before .before .before .before .before .before .before .before .before .loop .j) (omega (arith, c .before .before .before .before .before .before .before .before .before .before .before .before .before .before .before .before .loop, c .before .before .before .before .before .before .before .before .before .before .before .before .before .before .before .loop-test, c .before .before .before .before .before .before .before .before .before .before .before .before .before .before .before .before .before .before .before .before .before .before .before .before .before)) (c .before .before .before .before .before .before .before .before .before .before .before .before .before .before .before .before .before .before .before .before .before .before .before .before .before .pre .1 .1) (c .before .before .before .before .before .before .before .before .before .before .before .before .before .before .before .before .before .before .before .span .ensures) (c .before .before .before .before .before .before .before .before .before .before .before .before .before .before .before .before .before .before .get-vec .ensures) (c .before .before .before .before .before .before .before .before .before .before .before .before .before .before .before .before .before .get-vec2 .ensures) (c .before .before .before .before .before .before .before .before .before .before .before .before .before .before .param-at .ensures) (c .before .before .before .before .before .before .before .before .before .before .before .before .before .between .ensures) (c .before .before .before .before .before .before .before .before .before .before .before .before .frame .ensures) in
+    (omega (arith, c .before .before .before .before .before .before .before .before .before .before .before .before .before .before .before .before .loop, c .before .before .before .before .before .before .before .before .before .before .before .before .before .before .before .loop-test, c .before .before .before .before .before .before .before .before .before .before .before .before .before .before .before .before .before .before .before .before .before .before .before .before .before), omega (arith, c .before .before .before .before .before .before .before .before .before .before .before .before .before .before .before .before .loop), wrote-turn _ _ _ 8 (λ j. length-positions (c .before .before .before .before .before .before .before .before .before .before .before .before .before .before .before .before .before .before .before .before .before .before .before .before .before .args .kind) p g n (from + j)) (λ j. length-normals (c .before .before .before .before .before .before .before .before .before .before .before .before .before .before .before .before .before .before .before .before .before .before .before .before .before .args .kind) p g n (from + j)) (λ j. length-tags (c .before .before .before .before .before .before .before .before .before .before .before .before .before .before .before .before .before .before .before .before .before .before .before .before .before .args .first) n (from + j)) _ _ (c .before .before .before .before .before .before .before .before .before .before .before .before .before .before .before .before .loop .j) (rw (c .before .before .before .before .before .before .before .before .before .before .before .ring .ensures, f, c .before .before .before .before .before .before .before .tag-at .ensures) at (c .before .before .before .before .before .before .put-ring .ensures)) (c .before .before .before .before .before .before .before .before .before .before .before .before .before .before .before .before .loop .inv .2) (c .before .before .before .before .before .before .before .before .before .before .before .before .before .before .before .before .loop .inv .1))
+
+same-length : tie.Need-same-length Inv-loop μ-loop
+same-length c = kept _ _ _ (c .before .loop .inv .2 .pos)
+
+same-length-2 : tie.Need-same-length-2 Inv-loop μ-loop
+same-length-2 c = kept _ _ _ (c .before .loop .inv .2 .norm)
+
+same-length-3 : tie.Need-same-length-3 Inv-loop μ-loop
+same-length-3 c = kept _ _ _ (c .before .loop .inv .2 .tag)
+
+returns : tie.Need-returns Inv-loop μ-loop
+returns c = let e : c .before .loop .j ≡ c .before .before .before .before .before .before .before .before .before .before .args .count = omega arith in
+    rw e at (c .before .loop .inv .2)
+
+pub span-rings-spec : {M : Type 1} → statement M
+span-rings-spec =
+    tie.close
+    (tie.spec
+    Inv-loop
+    μ-loop
+    span-requires
+    get-vec-requires
+    add-get-vec
+    get-vec-requires-2
+    loop-holds
+    add-s
+    param-at-requires
+    between-requires
+    frame-requires
+    ring-requires
+    tag-at-requires
+    put-ring-requires
+    add-j
+    add-at
+    loop-less
+    loop-again
+    same-length
+    same-length-2
+    same-length-3
+    returns)
