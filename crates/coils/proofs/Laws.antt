@@ -15,7 +15,7 @@ use Rattle.job.specs.declared.Head.{Head}
 use Rattle.tables.specs.Job.{Job, jobOf, chainOf}
 use Rattle.tables.specs.Table.{Filled}
 use Rattle.tubes.specs.Frames.{chosen}
-use Rattle.tubes.specs.Lists.{Listed, Each, Site, Consecutive}
+use Rattle.tubes.specs.Lists.{Listed, marked, Each, Site, Consecutive}
 use Rattle.tubes.specs.declared.Source.{Source}
 use Rattle.tubes.specs.declared.Source.the-variants.{Coils}
 use Rattle.tubes.specs.Tubes.{given, shownCode, shown, coilAlpha, alphaOf, oxygenOf, gap, covered, loose, leads, joins, extended}
@@ -27,7 +27,7 @@ use Rattle.tables.specs.Job.{gives}
 use Rattle.tables.specs.declared.Want.the-variants.{Alpha}
 use Rattle.tubes.specs.Pieces.{pieces, apart}
 use Rattle.tubes.specs.Tubes.{Tube, tubesOf, runTubes, coilTubes}
-use Rattle.tubes.proofs.Laws.{chosen-ext, chosen-below, chosen-length}
+use Rattle.tubes.proofs.Laws.{chosen-ext, chosen-below, chosen-length, marked-is}
 use Rattle.walk.specs.declared.Totals.{Totals}
 use Rattle.walk.specs.declared.Pass.{Pass}
 use Rattle.walk.specs.Walk.{Walk, walk, counted, walked, RoomFor, Small}
@@ -259,11 +259,11 @@ given-bit false = refl
 
 module _ (J : Job) (t₀ tₐ t₁ t₂ : List ℕ) (T : Tables J t₀) (A : Filled (λ r. 0) (3 * J .residues) (J .residues) t₀ tₐ)
     (F : Filled (λ r. bit (loose J r)) (2 * J .residues) (J .residues) tₐ t₁) (m : ℕ)
-    (M : m ≡ length (chosen (λ k. not (eqb (getD t₁ (2 * J .residues + k) 0) 0)) (J .residues)))
-    (L : Listed (chosen (λ k. not (eqb (getD t₁ (2 * J .residues + k) 0) 0)) (J .residues)) (5 * J .residues) (J .residues) t₁ t₂) where
-  list-is : chosen (λ k. not (eqb (getD t₁ (2 * J .residues + k) 0) 0)) (J .residues) ≡ looseList J
+    (M : m ≡ length (chosen (marked t₁ (2 * J .residues) 0) (J .residues)))
+    (L : Listed (chosen (marked t₁ (2 * J .residues) 0) (J .residues)) (5 * J .residues) (J .residues) t₁ t₂) where
+  list-is : chosen (marked t₁ (2 * J .residues) 0) (J .residues) ≡ looseList J
   unfolding looseList
-  list-is = chosen-ext _ _ (J .residues) (λ k h. ap (λ (v : ℕ). not (eqb v 0)) (F .entry k h) ∙ given-bit (loose J k))
+  list-is = chosen-ext _ _ (J .residues) (λ k h. marked-is t₁ (2 * J .residues) 0 k (omega arith) ∙ ap (λ (v : ℕ). not (eqb v 0)) (F .entry k h) ∙ given-bit (loose J k))
 
   pub loose-count : m ≡ length (looseList J)
   loose-count = M ∙ ap length list-is

@@ -147,7 +147,7 @@ fn list_loose(b: &[u8], h: Head, t: &mut [u32]) -> usize
     let n = h.residues as usize;
     segments::clear(t, 3 * n, n);
     mark_loose(b, h, t);
-    tubes::list_frames(t, 2 * n, n, 5 * n)
+    tubes::list_frames(t, 2 * n, 0, n, 5 * n)
 }
 
 // The end of the run of the list that starts at p.

@@ -9,24 +9,27 @@ use native.Mathlib.Numerals.{add-one}
 use native.Mathlib.Omega.{arith}
 use lib.ListN.{length, getD, take, drop, set, length-set, length-take, length-drop, length-append, List·getD-append}
 use lib.Seq.{getD-set-same, getD-set-other, getD-take, getD-drop, getD-append-seam, ext-getD}
-use lib.Dec.{ltb, eqb}
-use borrow.Author.Tests.{lt-ltb, le-ltb, eqb-true, eqb-false, eq-eqb, ne-eqb, not-true}
+use lib.Dec.{ltb, leb, eqb}
+use borrow.Author.Tests.{lt-ltb, le-ltb, ltb-true, ltb-false, leb-true, leb-false, eqb-true, eqb-false, eq-eqb, ne-eqb, not-true}
 use Rattle.job.specs.Search.{last}
 use Rattle.job.specs.declared.Head.{Head}
 use Rattle.places.specs.Places.{placeOf, farBy}
 use Rattle.tables.specs.Job.{Job, jobOf, gives, found, chainOf}
 use Rattle.tables.specs.Table.{Filled}
-use Rattle.tables.proofs.Laws.{last-le}
+use Rattle.tables.specs.Stretch.{In, Reaches, Spans}
+use Rattle.tables.proofs.Laws.{last-le, fill-same}
+use Rattle.tables.proofs.Parts.{found-nothing, alphas-held}
+use Rattle.tables.specs.declared.Part.{Part}
 use Rattle.tables.specs.declared.Range.{Range}
 use Rattle.tables.specs.declared.Want.the-variants.{SegmentAlpha, SegmentOxygen}
 use Rattle.tables.specs.declared.Which.the-variants.{First, Last}
 use Rattle.tubes.specs.Pieces.{glue, pieces, apart}
 use Rattle.tubes.specs.Frames.{chosen}
-use Rattle.tubes.specs.Lists.{Listed, Each, Placed, Site}
+use Rattle.tubes.specs.Lists.{Listed, marked, Each, Placed, Site}
 use Rattle.tubes.specs.declared.Source.{Source}
 use Rattle.tubes.specs.declared.Source.the-variants.{Coils, Segment}
 use Rattle.tubes.specs.Tubes.{Tube, any, given, shownCode, shown, range, segmentAlpha, segmentOxygen, alphaOf, oxygenOf, gap, frames, counts, tubeOf, tubesOf, runTubes, segmentTubes, joined}
-use Rattle.tubes.proofs.Laws.{pieces-ext, chosen-ext, chosen-length, chosen-below}
+use Rattle.tubes.proofs.Laws.{pieces-ext, chosen-ext, chosen-up, chosen-length, chosen-below, marked-out, marked-is}
 use Rattle.mesh.specs.Protein.{Protein, proteinOf, gaps}
 use Rattle.mesh.specs.Outs.{Outs}
 use Rattle.walk.specs.declared.Totals.{Totals}
@@ -106,42 +109,100 @@ kept-more lo hi lo' hi' t u a b K = record {
   after = λ j h. K .after j (omega arith);
 }
 
--- both tables were cleared, and then filled
-module _ (J : Job) (i : ℕ) (g : Range) (gq : g ≡ range J i) (t₀ t₁ t₂ t₃ : List ℕ)
-    (F₁ : Filled (λ r. 0) (2 * J .residues) (2 * J .residues) t₀ t₁) where
-  pub alphas-clear : (r : ℕ) → r < J .residues → getD t₁ (2 * J .residues + r) 0 ≡ 0
-  alphas-clear r h = F₁ .entry r (omega arith)
+-- ---- a part of the residues
 
-  module _ (F₂ : Filled (λ r. found Last (gives J (SegmentAlpha g) r) (J .atoms)) (2 * J .residues) (J .residues) t₁ t₂) where
-    pub oxygens-clear : (r : ℕ) → r < J .residues → getD t₂ (3 * J .residues + r) 0 ≡ 0
-    oxygens-clear r h =
-        let e : 3 * J .residues + r ≡ 2 * J .residues + (J .residues + r) = omega arith in
-        F₂ .after (3 * J .residues + r) (omega arith) ∙ ap (λ (k : ℕ). getD t₁ k 0) e ∙ F₁ .entry (J .residues + r) (omega arith)
+-- a residue is in a part, or is not
+pub by-part : (A : Type 0) (p : Part) (r : ℕ) → (In p r → A) → ((In p r → ⊥) → A) → A
+by-part A p r here out = go (leb (p .from) r) refl (ltb r (p .to)) refl
+  where
+    go : (a : Bool) → leb (p .from) r ≡ a → (b : Bool) → ltb r (p .to) ≡ b → A
+    go true e true e' = here (leb-true _ _ e, ltb-true _ _ e')
+    go true e false e' = let l = ltb-false r (p .to) e' in out (λ i. omega arith)
+    go false e b e' = let l = leb-false (p .from) r e in out (λ i. omega arith)
 
-    pub loaded : Filled (λ r. found Last (gives J (SegmentOxygen g) r) (J .atoms)) (3 * J .residues) (J .residues) t₂ t₃ → Loaded J i t₀ t₃
-    unfolding segmentAlpha segmentOxygen found
-    loaded F₃ = record {
+-- a table that was filled for a part: its entries, and what it left
+module _ (f : ℕ → ℕ) (base : ℕ) (q : Part) (t₀ t : List ℕ) (F : Filled (λ k. f (q .from + k)) (base + q .from) (q .to - q .from) t₀ t) where
+  pub part-entry : (r : ℕ) → In q r → getD t (base + r) 0 ≡ f r
+  part-entry r i =
+      let place : base + r ≡ base + q .from + (r - q .from) = omega arith in
+      let own : q .from + (r - q .from) ≡ r = omega arith in
+      rw place (F .entry (r - q .from) (omega arith) ∙ ap f own)
+
+  pub part-out : q .from ≤ q .to → (r : ℕ) → (In q r → ⊥) → getD t (base + r) 0 ≡ getD t₀ (base + r) 0
+  part-out o r out = go (ltb r (q .from)) refl
+    where
+      go : (b : Bool) → ltb r (q .from) ≡ b → getD t (base + r) 0 ≡ getD t₀ (base + r) 0
+      go true e = let l = ltb-true r (q .from) e in F .before (base + r) (omega arith)
+      go false e = F .after (base + r) (past (ltb-false r (q .from) e) (ltb r (q .to)) refl)
+        where
+          past : q .from ≤ r → (b : Bool) → ltb r (q .to) ≡ b → base + q .from + (q .to - q .from) ≤ base + r
+          past l true z = absurd (out (l, ltb-true r (q .to) z))
+          past l false z = let m = ltb-false r (q .to) z in omega arith
+
+-- places that were cleared and then filled
+pub fill-cleared : (f : ℕ → ℕ) (base n : ℕ) (t₀ t₁ t₂ : List ℕ) → Filled (λ r. 0) base n t₀ t₁ → Filled f base n t₁ t₂ → Filled f base n t₀ t₂
+fill-cleared f base n t₀ t₁ t₂ F G = record {
+  size = G .size ∙ F .size;
+  entry = G .entry;
+  before = λ j l. G .before j l ∙ F .before j l;
+  after = λ j l. G .after j l ∙ F .after j l;
+}
+
+-- both tables of a segment
+pub loaded : (J : Job) (i : ℕ) (g : Range) → g ≡ range J i → (p q : Part) (t₀ t₁ t₂ : List ℕ) → Reaches J g p → Spans J p q
+    → Filled (λ k. found Last (gives J (SegmentAlpha g) (q .from + k)) (J .atoms)) (2 * J .residues + q .from) (q .to - q .from) t₀ t₁
+    → Filled (λ k. found Last (gives J (SegmentOxygen g) (q .from + k)) (J .atoms)) (3 * J .residues + q .from) (q .to - q .from) t₁ t₂
+    → Loaded J i q t₀ t₂
+unfolding segmentAlpha segmentOxygen found
+loaded J i g gq p q t₀ t₁ t₂ R S A O =
+    let order = S .order in
+    let few = S .to in
+    record {
+      order = order;
+      to = few;
       kept = record {
-        size = F₃ .size ∙ F₂ .size ∙ F₁ .size;
-        before = λ j l. F₃ .before j (omega arith) ∙ F₂ .before j l ∙ F₁ .before j l;
-        after = λ j l. F₃ .after j (omega arith) ∙ F₂ .after j (omega arith) ∙ F₁ .after j (omega arith);
+        size = O .size ∙ A .size;
+        before = λ j l. O .before j (omega arith) ∙ A .before j (omega arith);
+        after = λ j l. O .after j (omega arith) ∙ A .after j (omega arith);
       };
-      alphas = λ r h. F₃ .before (2 * J .residues + r) (omega arith) ∙ F₂ .entry r h ∙ ap (λ (x : Range). last (gives J (SegmentAlpha x) r) (J .atoms)) gq;
-      oxygens = λ r h. F₃ .entry r h ∙ ap (λ (x : Range). last (gives J (SegmentOxygen x) r) (J .atoms)) gq;
+      alphas = λ r h. O .before (2 * J .residues + r) (omega arith) ∙ part-entry (λ k. found Last (gives J (SegmentAlpha g) k) (J .atoms)) (2 * J .residues) q t₀ t₁ A r h
+          ∙ ap (λ (x : Range). last (gives J (SegmentAlpha x) r) (J .atoms)) gq;
+      oxygens = λ r h. part-entry (λ k. found Last (gives J (SegmentOxygen g) k) (J .atoms)) (3 * J .residues) q t₁ t₂ O r h
+          ∙ ap (λ (x : Range). last (gives J (SegmentOxygen x) r) (J .atoms)) gq;
+      others = λ r l out. sym (ap (λ (x : Range). last (gives J (SegmentAlpha x) r) (J .atoms)) gq)
+          ∙ found-nothing J Last (SegmentAlpha g) r p q (alphas-held J g p R) S l out;
     }
 
-module _ (J : Job) (i : ℕ) (t₀ t₂ t₃ : List ℕ) (room : 8 * J .residues ≤ length t₀) (G : Loaded J i t₀ t₂)
-    (m : ℕ) (M : m ≡ length (chosen (λ k. not (eqb (getD t₂ (2 * J .residues + k) 0) 0)) (J .residues)))
-    (L : Listed (chosen (λ k. not (eqb (getD t₂ (2 * J .residues + k) 0) 0)) (J .residues)) (5 * J .residues) (J .residues) t₂ t₃) where
-  list-is : chosen (λ k. not (eqb (getD t₂ (2 * J .residues + k) 0) 0)) (J .residues) ≡ frames J i
+module _ (J : Job) (i : ℕ) (q : Part) (t₀ t₂ t₃ : List ℕ) (room : 8 * J .residues ≤ length t₀) (G : Loaded J i q t₀ t₂)
+    (m : ℕ) (M : m ≡ length (chosen (marked t₂ (2 * J .residues) (q .from)) (q .to)))
+    (L : Listed (chosen (marked t₂ (2 * J .residues) (q .from)) (q .to)) (5 * J .residues) (q .to) t₂ t₃) where
+  few : q .to ≤ J .residues
+  few = G .to
+
+  framed : (k : ℕ) → k < q .to → marked t₂ (2 * J .residues) (q .from) k ≡ given (segmentAlpha J i k)
+  framed k l = go (ltb k (q .from)) refl
+    where
+      go : (b : Bool) → ltb k (q .from) ≡ b → marked t₂ (2 * J .residues) (q .from) k ≡ given (segmentAlpha J i k)
+      go true e =
+          let below = ltb-true k (q .from) e in
+          marked-out t₂ (2 * J .residues) (q .from) k below ∙ sym (ap given (G .others k (omega (arith, few)) (λ x. omega arith)))
+      go false e =
+          let from = ltb-false k (q .from) e in
+          marked-is t₂ (2 * J .residues) (q .from) k from ∙ ap given (G .alphas k (from, l))
+
+  list-is : chosen (marked t₂ (2 * J .residues) (q .from)) (q .to) ≡ frames J i
   unfolding frames
-  list-is = chosen-ext _ _ (J .residues) (λ k h. ap given (G .alphas k h))
+  list-is =
+      let all : q .to + (J .residues - q .to) ≡ J .residues = omega (arith, few) in
+      chosen-ext _ _ (q .to) framed
+      ∙ sym (subst (λ (n : ℕ). chosen (λ r. given (segmentAlpha J i r)) n ≡ chosen (λ r. given (segmentAlpha J i r)) (q .to)) all
+      (chosen-up (λ r. given (segmentAlpha J i r)) (q .to) (J .residues - q .to) (λ k l h. ap given (G .others k (omega arith) (λ x. omega arith)))))
 
   pub count-is : m ≡ length (frames J i)
   count-is = M ∙ ap length list-is
 
   pub count-few : m ≤ J .residues
-  count-few = omega (arith, M, chosen-length (λ k. not (eqb (getD t₂ (2 * J .residues + k) 0) 0)) (J .residues))
+  count-few = omega (arith, few, M, chosen-length (marked t₂ (2 * J .residues) (q .from)) (q .to))
 
   counts-few : m < 2 → counts J i ≡ false
   unfolding counts
@@ -154,37 +215,66 @@ module _ (J : Job) (i : ℕ) (t₀ t₂ t₃ : List ℕ) (room : 8 * J .residues
   holds : take (length (frames J i)) (drop (5 * J .residues) t₃) ≡ frames J i
   holds = rw (← list-is) (L .holds)
 
+  -- residues with a C-alpha are in the part
+  framed-in : (A : Type 0) (r : ℕ) → r < J .residues → 0 < segmentAlpha J i r → (In q r → A) → A
+  framed-in A r l some f = by-part A q r f (λ out. let z = G .others r l out in absurd (omega arith))
+
+  alphas-there : (r : ℕ) → r < J .residues → 0 < segmentAlpha J i r → getD t₃ (2 * J .residues + r) 0 ≡ segmentAlpha J i r
+  alphas-there r l some = framed-in _ r l some (λ h. L .before (2 * J .residues + r) (omega arith) ∙ G .alphas r h)
+
+  oxygens-there : (r : ℕ) → r < J .residues → 0 < segmentAlpha J i r → getD t₃ (3 * J .residues + r) 0 ≡ segmentOxygen J i r
+  oxygens-there r l some = framed-in _ r l some (λ h. L .before (3 * J .residues + r) (omega arith) ∙ G .oxygens r h)
+
+  covers-there : (r : ℕ) → r < J .residues → getD t₃ (4 * J .residues + r) 0 ≡ getD t₀ (4 * J .residues + r) 0
+  covers-there r l = L .before (4 * J .residues + r) (omega arith) ∙ G .kept .after (4 * J .residues + r) (omega arith)
+
   -- fewer than two frames: nothing is covered
   pub marked-few : m < 2 → Marked J i t₀ t₃
   marked-few h = record {
     kept = record {
       size = L .size ∙ G .kept .size;
       before = λ j l. L .before j (omega arith) ∙ G .kept .before j l;
-      after = λ j l. L .after j (omega arith) ∙ G .kept .after j (omega arith);
+      after = λ j l. L .after j (omega (arith, few)) ∙ G .kept .after j (omega arith);
     };
-    alphas = λ r l. L .before (2 * J .residues + r) (omega arith) ∙ G .alphas r l;
-    oxygens = λ r l. L .before (3 * J .residues + r) (omega arith) ∙ G .oxygens r l;
-    covers = λ r l. L .before (4 * J .residues + r) (omega arith) ∙ G .kept .after (4 * J .residues + r) (omega arith)
+    alphas = alphas-there;
+    oxygens = oxygens-there;
+    covers = λ r l. covers-there r l
         ∙ ap (λ (x : Bool). cond (x && given (segmentAlpha J i r)) 1 (getD t₀ (4 * J .residues + r) 0)) (sym (counts-few h));
     list = holds;
   }
 
-  pub marked-many : (t₄ : List ℕ) → 2 ≤ m → Filled (λ r. cond (given (getD t₃ (2 * J .residues + r) 0)) 1 (getD t₃ (4 * J .residues + r) 0)) (4 * J .residues) (J .residues) t₃ t₄ → Marked J i t₀ t₄
-  marked-many t₄ h F₄ = record {
-    kept = record {
-      size = F₄ .size ∙ L .size ∙ G .kept .size;
-      before = λ j l. F₄ .before j (omega arith) ∙ L .before j (omega arith) ∙ G .kept .before j l;
-      after = λ j l. F₄ .after j (omega arith) ∙ L .after j (omega arith) ∙ G .kept .after j (omega arith);
-    };
-    alphas = λ r l. F₄ .before (2 * J .residues + r) (omega arith) ∙ L .before (2 * J .residues + r) (omega arith) ∙ G .alphas r l;
-    oxygens = λ r l. F₄ .before (3 * J .residues + r) (omega arith) ∙ L .before (3 * J .residues + r) (omega arith) ∙ G .oxygens r l;
-    covers = λ r l.
-        F₄ .entry r l
-        ∙ ap (λ (x : ℕ). cond (given x) 1 (getD t₃ (4 * J .residues + r) 0)) (L .before (2 * J .residues + r) (omega arith) ∙ G .alphas r l)
-        ∙ ap (λ (x : ℕ). cond (given (segmentAlpha J i r)) 1 x) (L .before (4 * J .residues + r) (omega arith) ∙ G .kept .after (4 * J .residues + r) (omega arith))
-        ∙ ap (λ (x : Bool). cond (x && given (segmentAlpha J i r)) 1 (getD t₀ (4 * J .residues + r) 0)) (sym (counts-many h));
-    list = ap (take (length (frames J i))) (drop-same (5 * J .residues) t₃ t₄ (F₄ .size) (λ j l. F₄ .after j (omega arith))) ∙ holds;
-  }
+  module _ (t₄ : List ℕ) (F : Filled (λ r. cond (given (getD t₃ (2 * J .residues + q .from + r) 0)) 1 (getD t₃ (4 * J .residues + q .from + r) 0)) (4 * J .residues + q .from) (q .to - q .from) t₃ t₄) where
+    marked-by : Filled (λ k. marking (2 * J .residues) (4 * J .residues) t₃ (q .from + k)) (4 * J .residues + q .from) (q .to - q .from) t₃ t₄
+    marked-by = fill-same _ _ _ _ _ _ F (λ k l.
+        let a : 2 * J .residues + (q .from + k) ≡ 2 * J .residues + q .from + k = omega arith in
+        let c : 4 * J .residues + (q .from + k) ≡ 4 * J .residues + q .from + k = omega arith in
+        rw (a, c))
+
+    marked-in : (r : ℕ) → In q r → getD t₄ (4 * J .residues + r) 0 ≡ cond (given (segmentAlpha J i r)) 1 (getD t₀ (4 * J .residues + r) 0)
+    marked-in r h =
+        part-entry (marking (2 * J .residues) (4 * J .residues) t₃) (4 * J .residues) q t₃ t₄ marked-by r h
+        ∙ ap (λ (x : ℕ). cond (given x) 1 (getD t₃ (4 * J .residues + r) 0)) (L .before (2 * J .residues + r) (omega (arith, few)) ∙ G .alphas r h)
+        ∙ ap (λ (x : ℕ). cond (given (segmentAlpha J i r)) 1 x) (covers-there r (omega (arith, few)))
+
+    left-out : (r : ℕ) → r < J .residues → (In q r → ⊥) → getD t₄ (4 * J .residues + r) 0 ≡ cond (given (segmentAlpha J i r)) 1 (getD t₀ (4 * J .residues + r) 0)
+    left-out r l out =
+        part-out (marking (2 * J .residues) (4 * J .residues) t₃) (4 * J .residues) q t₃ t₄ marked-by (G .order) r out ∙ covers-there r l
+        ∙ sym (ap (λ (x : ℕ). cond (given x) 1 (getD t₀ (4 * J .residues + r) 0)) (G .others r l out))
+
+    pub marked-many : 2 ≤ m → Marked J i t₀ t₄
+    marked-many h = record {
+      kept = record {
+        size = F .size ∙ L .size ∙ G .kept .size;
+        before = λ j l. F .before j (omega arith) ∙ L .before j (omega arith) ∙ G .kept .before j l;
+        after = λ j l. F .after j (omega (arith, few, G .order)) ∙ L .after j (omega (arith, few)) ∙ G .kept .after j (omega arith);
+      };
+      alphas = λ r l s. F .before (2 * J .residues + r) (omega arith) ∙ alphas-there r l s;
+      oxygens = λ r l s. F .before (3 * J .residues + r) (omega arith) ∙ oxygens-there r l s;
+      covers = λ r l.
+          by-part _ q r (marked-in r) (left-out r l)
+          ∙ ap (λ (x : Bool). cond (x && given (segmentAlpha J i r)) 1 (getD t₀ (4 * J .residues + r) 0)) (sym (counts-many h));
+      list = ap (take (length (frames J i))) (drop-same (5 * J .residues) t₃ t₄ (F .size) (λ j l. F .after j (omega (arith, few, G .order)))) ∙ holds;
+    }
 
 -- ---- a property of every number of a list, and of every piece
 
@@ -273,9 +363,8 @@ module _ (s : List ℕ) (h : Head) (i : ℕ) (t₀ t : List ℕ) (room : 8 * h .
       let le : k * h .residues + h .residues ≤ 8 * h .residues = rw (← suc-mul k (h .residues)) (mul-le-mul-right (h .residues) kl) in
       simp (length-take, length-drop) (omega arith)
 
-  table-at : (f : ℕ → ℕ) (a z : ℕ) → z ≡ a + h .residues → ((r : ℕ) → r < h .residues → getD t (a + r) 0 ≡ f r)
-      → (r : ℕ) → r < h .residues → getD (take (z - a) (drop a t)) r 0 ≡ f r
-  table-at f a z zq e r l = getD-take (z - a) (drop a t) r 0 (omega arith) ∙ getD-drop a t r 0 ∙ e r l
+  table-at : (f : ℕ → ℕ) (a z : ℕ) → z ≡ a + h .residues → (r : ℕ) → r < h .residues → getD t (a + r) 0 ≡ f r → getD (take (z - a) (drop a t)) r 0 ≡ f r
+  table-at f a z zq r l e = getD-take (z - a) (drop a t) r 0 (omega arith) ∙ getD-drop a t r 0 ∙ e
 
   codes-at : (r : ℕ) → r < h .residues → getD (take (h .residues) t) r 0 ≡ chainOf (jobOf s h) r
   codes-at r l = getD-take (h .residues) t r 0 l ∙ chain-is r l
@@ -294,27 +383,28 @@ module _ (s : List ℕ) (h : Head) (i : ℕ) (t₀ t : List ℕ) (room : 8 * h .
     pub oxygens-size : length (take (z - o) (drop o t)) ≡ h .residues
     oxygens-size = table-size 3 o z (omega arith) oq (omega arith)
 
-    alphas-at : (r : ℕ) → r < h .residues → getD (take (o - a) (drop a t)) r 0 ≡ segmentAlpha (jobOf s h) i r
-    alphas-at = table-at (segmentAlpha (jobOf s h) i) a o (omega arith) (rw aq (M .alphas))
+    alphas-at : (r : ℕ) → r < h .residues → 0 < segmentAlpha (jobOf s h) i r → getD (take (o - a) (drop a t)) r 0 ≡ segmentAlpha (jobOf s h) i r
+    alphas-at r l some = table-at (segmentAlpha (jobOf s h) i) a o (omega arith) r l (rw aq (M .alphas r l some))
 
-    oxygens-at : (r : ℕ) → r < h .residues → getD (take (z - o) (drop o t)) r 0 ≡ segmentOxygen (jobOf s h) i r
-    oxygens-at = table-at (segmentOxygen (jobOf s h) i) o z (omega arith) (rw oq (M .oxygens))
+    oxygens-at : (r : ℕ) → r < h .residues → 0 < segmentAlpha (jobOf s h) i r → getD (take (z - o) (drop o t)) r 0 ≡ segmentOxygen (jobOf s h) i r
+    oxygens-at r l some = table-at (segmentOxygen (jobOf s h) i) o z (omega arith) r l (rw oq (M .oxygens r l some))
 
     pub part-sited : Each (Site (jobOf s h) (Segment i) (take (o - a) (drop a t)) (take (z - o) (drop o t))) (take (e - n) (drop n t))
     unfolding alphaOf oxygenOf
     part-sited k l =
         let l' : k < length (frames (jobOf s h) i) = rw (part-is n e nq eq) at l in
         let b = frame-below k l' in
+        let some = frame-some k l' in
         rw (part-is n e nq eq) (record {
           placed = record {
             known = rw alphas-size b;
-            some = rw (alphas-at _ b) (frame-some k l');
-            few = rw (alphas-at _ b) (alpha-few _);
+            some = rw (alphas-at _ b some) some;
+            few = rw (alphas-at _ b some) (alpha-few _);
           };
-          alpha = alphas-at _ b;
+          alpha = alphas-at _ b some;
           known = rw oxygens-size b;
-          oxygen = oxygens-at _ b;
-          few = rw (oxygens-at _ b) (oxygen-few _);
+          oxygen = oxygens-at _ b some;
+          few = rw (oxygens-at _ b some) (oxygen-few _);
         })
 
     pub sizes-agree : length (take (o - a) (drop a t)) ≤ length (take (h .residues) t)
@@ -344,23 +434,21 @@ module _ (s : List ℕ) (h : Head) (i : ℕ) (t₀ t : List ℕ) (room : 8 * h .
   unfolding segmentTubes counts
   tubes-hidden two sh = rw (le-ltb (length (frames (jobOf s h) i)) 2 (omega arith), sh)
 
-  -- the first frame, as it is read from the scratch
-  pub first-is : (n : ℕ) → n ≡ 5 * h .residues → 2 ≤ m → getD t n 0 ≡ getD (frames (jobOf s h) i) 0 0
-  first-is n nq two =
-      let w : n + 0 ≡ n = omega arith in
-      sym (ap (λ (k : ℕ). getD t k 0) w) ∙ sym (getD-drop n t 0 0) ∙ sym (getD-take (n + m - n) (drop n t) 0 0 (omega arith)) ∙ ap (λ (l : List ℕ). getD l 0 0) (part-is n (n + m) nq refl)
+  -- the first frame, as it is read from the list
+  module _ (n e f : ℕ) (nq : n ≡ 5 * h .residues) (eq : e ≡ n + m) (two : 2 ≤ m) (fq : f ≡ getD (take (e - n) (drop n t)) 0 0) where
+    first-is : f ≡ getD (frames (jobOf s h) i) 0 0
+    first-is = fq ∙ ap (λ (l : List ℕ). getD l 0 0) (part-is n e nq eq)
 
-  module _ (n : ℕ) (nq : n ≡ 5 * h .residues) (two : 2 ≤ m) where
-    pub first-below : getD t n 0 < h .residues
-    first-below = rw (first-is n nq two) (frame-below 0 (omega arith))
+    pub first-below : f < h .residues
+    first-below = rw first-is (frame-below 0 (omega arith))
 
-    first-code : getD t (getD t n 0) 0 ≡ chainOf (jobOf s h) (getD (frames (jobOf s h) i) 0 0)
-    first-code = chain-is _ first-below ∙ ap (chainOf (jobOf s h)) (first-is n nq two)
+    first-code : getD t f 0 ≡ chainOf (jobOf s h) (getD (frames (jobOf s h) i) 0 0)
+    first-code = chain-is f first-below ∙ ap (chainOf (jobOf s h)) first-is
 
-    pub first-chained : Chained (jobOf s h) (h .chains) → getD t (getD t n 0) 0 ≤ h .chains
+    pub first-chained : Chained (jobOf s h) (h .chains) → getD t f 0 ≤ h .chains
     first-chained K = rw first-code (K _)
 
-    pub first-shown : (x : Bool) → x ≡ shownCode (jobOf s h) (getD t (getD t n 0) 0) → shown (jobOf s h) (getD (frames (jobOf s h) i) 0 0) ≡ x
+    pub first-shown : (x : Bool) → x ≡ shownCode (jobOf s h) (getD t f 0) → shown (jobOf s h) (getD (frames (jobOf s h) i) 0 0) ≡ x
     unfolding shown
     first-shown x e = sym (e ∙ ap (shownCode (jobOf s h)) first-code)
 

@@ -1,5 +1,6 @@
 // The tubes of the segments.
 use job::Head;
+use tables::Part;
 use tables::Range;
 use tables::Want;
 use tables::Which;
@@ -8,7 +9,7 @@ use walk::Pass;
 use walk::Totals;
 ghost use mathlib.Core.Path.{_≡_};
 ghost use mathlib.Core.List.{_∷_, []};
-ghost use Prim.Native.Nat.{ℕ, _+_, _*_, _≤_, _<_};
+ghost use Prim.Native.Nat.{ℕ, _+_, _-_, _*_, _≤_, _<_};
 ghost use lib.ListN.{length, getD, drop};
 ghost use mathlib.Core.Bool.{cond};
 ghost use Rattle.job.specs.Layout.{Whole};
@@ -16,7 +17,8 @@ ghost use Rattle.mesh.specs.Protein.{proteinOf};
 ghost use Rattle.mesh.specs.Outs.{outs};
 ghost use Rattle.places.specs.Places.{placeOf, farBy};
 ghost use Rattle.tables.specs.Table.{Filled};
-ghost use Rattle.tables.specs.Job.{jobOf, chainOf};
+ghost use Rattle.tables.specs.Job.{jobOf, chainOf, gives, found};
+ghost use Rattle.tables.specs.Stretch.{Holds, sorted};
 ghost use Rattle.tubes.specs.Tubes.{given, shownCode, frames, segmentTubes, joined};
 ghost use Rattle.walk.specs.Walk.{walk, Small, counted, walked, RoomFor};
 ghost use Rattle.segments.specs.Tubes.{Kept, Loaded, Marked, Chained, Chains, Covers};
@@ -58,48 +60,64 @@ pub fn is_shown(b: &[u8], h: Head, code: usize) -> bool
     job::byte_at(b, 12 + code) == 1
 }
 
-// Puts segment i's C-alphas and oxygens into the scratch.
-fn load_segment(b: &[u8], h: Head, i: usize, scratch: &mut [u32])
-    requires { ⌜ Whole (now b) h × (i < h .segments) × (8 * h .residues ≤ length (now scratch)) ⌝ }
-    ensures { λ _. ⌜ Loaded (jobOf (now (b .entry)) h) i (now (scratch .entry)) (now (scratch .exit)) ⌝ }
+// The last atom asked for of each residue of a part, in the table at base, from a part of the atoms in which all that are asked for stand.
+fn load_table(b: &[u8], h: Head, w: Want, atoms: Part, residues: Part, t: &mut [u32], base: usize)
+    requires { ⌜ Whole (now b) h × (base + h .residues ≤ length (now t)) × (residues .from ≤ residues .to) × (residues .to ≤ h .residues) × Holds (jobOf (now b) h) w atoms ⌝ }
+    ensures { λ _. ⌜ Filled (λ r. found Which.Last (gives (jobOf (now (b .entry)) h) w (residues .from + r)) (h .atoms)) (base + residues .from) (residues .to - residues .from) (now (t .entry)) (now (t .exit)) ⌝ }
+{
+    clear(t, base + residues.from, residues.to - residues.from);
+    tables::fill_part(b, h, Which::Last, w, atoms, residues, t, base);
+}
+
+// Puts segment i's C-alphas and oxygens into the scratch. Answers a part of the residues in which all its frames are: the tables hold for that part alone.
+fn load_segment(b: &[u8], h: Head, i: usize, ascend: bool, scratch: &mut [u32]) -> Part
+    requires { ⌜ Whole (now b) h × (i < h .segments) × (8 * h .residues ≤ length (now scratch)) × (ascend ≡ sorted (jobOf (now b) h)) ⌝ }
+    ensures { λ r. ⌜ Loaded (jobOf (now (b .entry)) h) i r (now (scratch .entry)) (now (scratch .exit)) ⌝ }
 {
     let n = h.residues as usize;
     let at = job::segment_at(h, i);
     let start = job::u32_at(b, at + 1);
     let stop = job::u32_at(b, at + 5);
-    clear(scratch, 2 * n, 2 * n);
-    tables::fill(
+    let g = Range { start, stop };
+    let atoms = tables::stretch::stretch(b, h, ascend, g);
+    let residues = tables::stretch::span(b, h, ascend, atoms);
+    load_table(b, h, Want::SegmentAlpha(g), atoms, residues, scratch, 2 * n);
+    load_table(
         b,
         h,
-        Which::Last,
-        Want::SegmentAlpha(Range { start, stop }),
-        scratch,
-        2 * n,
-    );
-    tables::fill(
-        b,
-        h,
-        Which::Last,
-        Want::SegmentOxygen(Range { start, stop }),
+        Want::SegmentOxygen(g),
+        atoms,
+        residues,
         scratch,
         3 * n,
     );
+    residues
 }
 
 // Puts segment i's tables and frames into the scratch, and marks what it covers. Answers how many frames it has.
-fn mark(b: &[u8], h: Head, i: usize, scratch: &mut [u32]) -> usize
-    requires { ⌜ Whole (now b) h × (i < h .segments) × (8 * h .residues ≤ length (now scratch)) ⌝ }
+fn mark(b: &[u8], h: Head, i: usize, ascend: bool, scratch: &mut [u32]) -> usize
+    requires { ⌜ Whole (now b) h × (i < h .segments) × (8 * h .residues ≤ length (now scratch)) × (ascend ≡ sorted (jobOf (now b) h)) ⌝ }
     ensures { λ r. ⌜ (r ≡ length (frames (jobOf (now (b .entry)) h) i)) × (r ≤ h .residues) × Marked (jobOf (now (b .entry)) h) i (now (scratch .entry)) (now (scratch .exit)) ⌝ }
 {
     let n = h.residues as usize;
     let alphas = 2 * n;
-    load_segment(b, h, i, scratch);
-    let m = tubes::list_frames(scratch, alphas, n, 5 * n);
+    let part = load_segment(b, h, i, ascend, scratch);
+    let from = part.from;
+    let to = part.to;
+    let m = tubes::list_frames(scratch, alphas, from, to, 5 * n);
     if m < 2 {
         return m;
     }
-    cover(scratch, alphas, 4 * n, n);
+    cover(scratch, alphas + from, 4 * n + from, to - from);
     m
+}
+
+// The first of a segment's frames: its chain decides whether the segment is visible.
+fn first_frame(list: &[u32]) -> u32
+    requires { ⌜ 0 < length (now list) ⌝ }
+    ensures { λ r. ⌜ r ≡ getD (now (list .entry)) 0 0 ⌝ }
+{
+    list[0]
 }
 
 // A segment's tubes.
@@ -107,6 +125,7 @@ pub fn segment(
     b: &[u8],
     h: Head,
     i: usize,
+    ascend: bool,
     pass: Pass,
     t: Totals,
     scratch: &mut [u32],
@@ -118,7 +137,7 @@ pub fn segment(
     records: &mut [u32],
     boxes: &mut [f32],
 ) -> Totals
-    requires { ⌜ Whole (now b) h × (i < h .segments) × (8 * h .residues ≤ length (now scratch)) × (6 * h .residues ≤ length (now floats)) × Small t 1073741824 ⌝ }
+    requires { ⌜ Whole (now b) h × (i < h .segments) × (8 * h .residues ≤ length (now scratch)) × (6 * h .residues ≤ length (now floats)) × Small t 1073741824 × (ascend ≡ sorted (jobOf (now b) h)) ⌝ }
     requires { ⌜ Chains (jobOf (now b) h) (now scratch) × Chained (jobOf (now b) h) (h .chains) ⌝ }
     requires { ⌜ RoomFor pass (counted t (segmentTubes (jobOf (now b) h) (farBy (placeOf (now b) h)) i))
         (outs (now positions) (now normals) (now tags) (now triangles) (now records) (now boxes)) ⌝ }
@@ -128,7 +147,7 @@ pub fn segment(
         ≡ walked (proteinOf (now (b .entry)) h) pass (segmentTubes (jobOf (now (b .entry)) h) (farBy (placeOf (now (b .entry)) h)) i)
         (walk t (outs (now (positions .entry)) (now (normals .entry)) (now (tags .entry)) (now (triangles .entry)) (now (records .entry)) (now (boxes .entry)))) ⌝ }
 {
-    let m = mark(b, h, i, scratch);
+    let m = mark(b, h, i, ascend, scratch);
     if m < 2 {
         return t;
     }
@@ -139,7 +158,7 @@ pub fn segment(
     let list = 5 * n;
     let end = list + m;
     let view = &scratch[..];
-    let first = view[list] as usize;
+    let first = first_frame(&view[list..end]) as usize;
     if !is_shown(b, h, view[first] as usize) {
         return t;
     }
@@ -191,6 +210,7 @@ pub fn each_segment(
         (walk t (outs (now (positions .entry)) (now (normals .entry)) (now (tags .entry)) (now (triangles .entry)) (now (records .entry)) (now (boxes .entry))))) ⌝ }
 {
     let n = h.segments as usize;
+    let ascend = tables::stretch::is_sorted(b, h);
     let mut s = t;
     let mut i = 0;
     while i < n {
@@ -198,6 +218,7 @@ pub fn each_segment(
             b,
             h,
             i,
+            ascend,
             pass,
             s,
             scratch,

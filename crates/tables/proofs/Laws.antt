@@ -4,7 +4,7 @@ use mathlib.Core.Bool.{Bool, true, false, cond, _&&_}
 use mathlib.Core.List.{List}
 use mathlib.Core.Path.{_≡_, refl, sym, _∙_, ap, subst}
 use mathlib.Core.Logic.{⊎-elim, _≢_}
-use native.Mathlib.Nat.{eq-or-lt-of-le, le-of-suc-le-suc, zero-add}
+use native.Mathlib.Nat.{eq-or-lt-of-le, le-of-suc-le-suc, zero-add, add-zero}
 use native.Mathlib.Numerals.{add-one}
 use native.Mathlib.Omega.{arith}
 use native.Mathlib.Decide.{ℕ-discrete}
@@ -127,27 +127,48 @@ found-kept Last t n k = let z : true ≡ false = sym k in absurd (true-false k)
     true-false : false ≡ true → ⊥
     true-false e = let z : _≡_ {A = ℕ} 0 1 = cc in omega arith
 
--- one turn of `fill`: the atom a is stored for its residue, is not asked for, has no residue, or comes after the first
-module _ (J : Job) (x : Which) (w : Want) (base n : ℕ) (t₀ t : List ℕ) (a : ℕ) (F : Filled (λ r. found x (gives J w r) a) base n t₀ t) where
-  pub turn-hit : (r : ℕ) → base + n ≤ length t₀ → r ≡ J .residue a → r < n → keeps x (getD t (base + r) 0) ≡ false → wants J w a ≡ true
-      → Filled (λ r. found x (gives J w r) (a + 1)) base n t₀ (set t (base + r) (a + 1))
-  turn-hit r fits q l k e =
-      fill-set _ _ base n t₀ t r (a + 1) F l fits (found-yes x _ a (ap (keeps x) (sym (F .entry r l)) ∙ k) (gives-yes J w r a q e))
-      (λ i m ne. found-no x _ a (gives-other J w i a (λ p. ne (sym p ∙ sym q))))
+-- nothing is found from a up to a + d
+pub found-skip : (x : Which) (t : ℕ → Bool) (a d : ℕ) → ((k : ℕ) → a ≤ k → k < a + d → t k ≡ false) → found x t (a + d) ≡ found x t a
+found-skip x t a zero none = rw add-zero
+found-skip x t a (suc d) none =
+    let e : a + suc d ≡ a + d + 1 = omega arith in
+    rw e (found-no x t (a + d) (none (a + d) (omega arith) (omega arith)) ∙ found-skip x t a d (λ k l m. none k l (omega arith)))
 
-  pub turn-miss : wants J w a ≡ false → Filled (λ r. found x (gives J w r) (a + 1)) base n t₀ t
-  turn-miss e = fill-same _ _ base n t₀ t F (λ r l. found-no x _ a (gives-no J w r a e))
+-- one turn of `fill_part`, over the n residues from `first` on: the atom a is stored for its residue, is not asked for, has no residue among
+-- them, or comes after the first
+module _ (J : Job) (x : Which) (w : Want) (base first n : ℕ) (t₀ t : List ℕ) (a : ℕ) (F : Filled (λ i. found x (gives J w (first + i)) a) (base + first) n t₀ t) where
+  pub turn-hit : (r : ℕ) → base + first + n ≤ length t₀ → r ≡ J .residue a → first ≤ r → r < first + n → keeps x (getD t (base + r) 0) ≡ false → wants J w a ≡ true
+      → Filled (λ i. found x (gives J w (first + i)) (a + 1)) (base + first) n t₀ (set t (base + r) (a + 1))
+  turn-hit r fits q f l k e =
+      let place : base + r ≡ base + first + (r - first) = omega arith in
+      let own : first + (r - first) ≡ J .residue a = omega arith in
+      let few : r - first < n = omega arith in
+      rw place
+      (fill-set _ _ (base + first) n t₀ t (r - first) (a + 1) F few fits
+      (found-yes x _ a (ap (keeps x) (sym (F .entry (r - first) few) ∙ ap (λ (j : ℕ). getD t j 0) (sym place)) ∙ k) (gives-yes J w (first + (r - first)) a own e))
+      (λ i m ne. found-no x _ a (gives-other J w (first + i) a (λ p. ne (omega arith)))))
 
-  pub turn-out : n ≤ J .residue a → Filled (λ r. found x (gives J w r) (a + 1)) base n t₀ t
-  turn-out out = fill-same _ _ base n t₀ t F (λ r l. found-no x _ a (gives-other J w r a (λ p. omega arith)))
+  pub turn-miss : wants J w a ≡ false → Filled (λ i. found x (gives J w (first + i)) (a + 1)) (base + first) n t₀ t
+  turn-miss e = fill-same _ _ (base + first) n t₀ t F (λ i l. found-no x _ a (gives-no J w (first + i) a e))
 
-  pub turn-kept : (r : ℕ) → r ≡ J .residue a → r < n → keeps x (getD t (base + r) 0) ≡ true → Filled (λ r. found x (gives J w r) (a + 1)) base n t₀ t
-  turn-kept r q l k = fill-same _ _ base n t₀ t F (λ i m. go i m (eqb i r) refl)
+  pub turn-out : ((i : ℕ) → i < n → J .residue a ≡ first + i → ⊥) → Filled (λ i. found x (gives J w (first + i)) (a + 1)) (base + first) n t₀ t
+  turn-out out = fill-same _ _ (base + first) n t₀ t F (λ i l. found-no x _ a (gives-other J w (first + i) a (out i l)))
+
+  pub turn-kept : (r : ℕ) → r ≡ J .residue a → first ≤ r → r < first + n → keeps x (getD t (base + r) 0) ≡ true → Filled (λ i. found x (gives J w (first + i)) (a + 1)) (base + first) n t₀ t
+  turn-kept r q f l k = fill-same _ _ (base + first) n t₀ t F (λ i m. go i m (eqb (first + i) r) refl)
     where
-      go : (i : ℕ) → i < n → (b : Bool) → eqb i r ≡ b → found x (gives J w i) (a + 1) ≡ found x (gives J w i) a
+      go : (i : ℕ) → i < n → (b : Bool) → eqb (first + i) r ≡ b → found x (gives J w (first + i)) (a + 1) ≡ found x (gives J w (first + i)) a
       go i m true e =
-          found-kept x _ a (ap (keeps x) (sym (F .entry i m) ∙ ap (λ (j : ℕ). getD t (base + j) 0) (eqb-true i r e)) ∙ k)
-      go i m false e = found-no x _ a (gives-other J w i a (λ p. eqb-false i r e (sym p ∙ sym q)))
+          let here = eqb-true (first + i) r e in
+          let place : base + first + i ≡ base + r = omega arith in
+          found-kept x _ a (ap (keeps x) (sym (F .entry i m) ∙ ap (λ (j : ℕ). getD t j 0) place) ∙ k)
+      go i m false e = found-no x _ a (gives-other J w (first + i) a (λ p. eqb-false (first + i) r e (sym p ∙ sym q)))
+
+-- the table of all residues
+pub fill-all : (f : ℕ → ℕ) (base n : ℕ) (t₀ t : List ℕ) → Filled (λ r. f (0 + r)) (base + 0) (n - 0) t₀ t → Filled f base n t₀ t
+fill-all f base n t₀ t F =
+    let all : n - 0 ≡ n = omega arith in
+    fill-same _ f base n t₀ t (rw (add-zero, all) at F) (λ r l. ap f (sym (zero-add r)))
 
 pub last-le : (t : ℕ → Bool) (n : ℕ) → last t n ≤ n
 unfolding last

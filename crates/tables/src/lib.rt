@@ -1,19 +1,28 @@
 // Residue tables in lent scratch: for each residue an atom, counted from 1, or 0.
+pub mod stretch;
+
 use job::Head;
 ghost use mathlib.Core.Path.{_≡_};
 ghost use mathlib.Core.Bool.{Bool, _&&_};
-ghost use Prim.Native.Nat.{ℕ, _+_, _≤_, _<_};
+ghost use Prim.Native.Nat.{ℕ, _+_, _-_, _≤_, _<_};
 ghost use lib.ListN.{length, getD};
 ghost use lib.Dec.{eqb};
 ghost use Rattle.job.specs.Search.{last};
 ghost use Rattle.job.specs.Layout.{Whole};
 ghost use Rattle.tables.specs.Job.{jobOf, inside, wants, gives, found, chainOf};
 ghost use Rattle.tables.specs.Table.{Filled, keeps};
+ghost use Rattle.tables.specs.Stretch.{Holds};
 
 // Serial numbers from start to stop, both included.
 pub struct Range {
     pub start: usize,
     pub stop: usize,
+}
+
+// Atoms or residues from the first number up to, and without, the second.
+pub struct Part {
+    pub from: usize,
+    pub to: usize,
 }
 
 // Which atoms a table asks for.
@@ -99,25 +108,56 @@ fn is_kept(which: Which, v: u32) -> bool
     }
 }
 
-// For each residue one more than the first or the last atom asked for, or 0, in the table at base, which is all 0 before.
-pub fn fill(b: &[u8], h: Head, which: Which, w: Want, t: &mut [u32], base: usize)
-    requires { ⌜ Whole (now b) h × (base + h .residues ≤ length (now t)) ⌝ }
-    requires { ⌜ ((r : ℕ) → r < h .residues → getD (now t) (base + r) 0 ≡ 0) ⌝ }
-    ensures { λ _. ⌜ Filled (λ r. found which (gives (jobOf (now (b .entry)) h) w r) (h .atoms)) base (h .residues) (now (t .entry)) (now (t .exit)) ⌝ }
+// For each residue of a part one more than the first or the last atom asked for, or 0, in the table at base, where those places are 0 before. Only
+// the atoms of a part are read, in which all that are asked for stand.
+pub fn fill_part(
+    b: &[u8],
+    h: Head,
+    which: Which,
+    w: Want,
+    atoms: Part,
+    residues: Part,
+    t: &mut [u32],
+    base: usize,
+)
+    requires { ⌜ Whole (now b) h × (base + h .residues ≤ length (now t)) × (residues .to ≤ h .residues) × Holds (jobOf (now b) h) w atoms ⌝ }
+    requires { ⌜ ((r : ℕ) → r < residues .to - residues .from → getD (now t) (base + residues .from + r) 0 ≡ 0) ⌝ }
+    ensures { λ _. ⌜ Filled (λ r. found which (gives (jobOf (now (b .entry)) h) w (residues .from + r)) (h .atoms)) (base + residues .from) (residues .to - residues .from) (now (t .entry)) (now (t .exit)) ⌝ }
 {
-    let n = h.atoms as usize;
-    let mut a = 0;
+    let n = atoms.to;
+    let first = residues.from;
+    let end = residues.to;
+    let mut a = atoms.from;
     while a < n {
-        let r = residue(b, h, a);
-        if r < h.residues as usize {
-            if !is_kept(which, t[base + r]) {
-                if is_wanted(b, h, w, a) {
-                    t[base + r] = (a + 1) as u32;
+        if is_wanted(b, h, w, a) {
+            let r = residue(b, h, a);
+            if first <= r {
+                if r < end {
+                    if !is_kept(which, t[base + r]) {
+                        t[base + r] = (a + 1) as u32;
+                    }
                 }
             }
         }
         a += 1;
     }
+}
+
+// The same for every residue, from every atom.
+pub fn fill(b: &[u8], h: Head, which: Which, w: Want, t: &mut [u32], base: usize)
+    requires { ⌜ Whole (now b) h × (base + h .residues ≤ length (now t)) ⌝ }
+    requires { ⌜ ((r : ℕ) → r < h .residues → getD (now t) (base + r) 0 ≡ 0) ⌝ }
+    ensures { λ _. ⌜ Filled (λ r. found which (gives (jobOf (now (b .entry)) h) w r) (h .atoms)) base (h .residues) (now (t .entry)) (now (t .exit)) ⌝ }
+{
+    let atoms = Part {
+        from: 0,
+        to: h.atoms as usize,
+    };
+    let residues = Part {
+        from: 0,
+        to: h.residues as usize,
+    };
+    fill_part(b, h, which, w, atoms, residues, t, base);
 }
 
 // Turns the atoms of the first table, which `fill` wrote for `Want::Chain`, into codes of chains: 0, or one more than the chain.
