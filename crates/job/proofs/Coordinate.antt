@@ -136,3 +136,18 @@ outside-bits x = rw (within-bits x) (go (leb (x % 0x8000000000000000) 0x40D00000
     go : (p : Bool) → leb (x % 0x8000000000000000) 0x40D0000000000000 ≡ p → ltb 0x40D0000000000000 (x % 0x8000000000000000) ≡ not p
     go true e = le-ltb 0x40D0000000000000 (x % 0x8000000000000000) (leb-true (x % 0x8000000000000000) 0x40D0000000000000 e)
     go false e = lt-ltb 0x40D0000000000000 (x % 0x8000000000000000) (leb-false (x % 0x8000000000000000) 0x40D0000000000000 e)
+
+-- the same of the two halves of the bits
+module _ (high low : ℕ) (h : high < 4294967296) (l : low < 4294967296) where
+  pub below-limit : high % 0x80000000 < 0x40D00000 → false ≡ not (within (high * 4294967296 + low))
+  below-limit e = sym (le-ltb 0x40D0000000000000 ((high * 4294967296 + low) % 0x8000000000000000) (omega arith)) ∙ outside-bits (high * 4294967296 + low)
+
+  pub above-limit : 0x40D00000 < high % 0x80000000 → true ≡ not (within (high * 4294967296 + low))
+  above-limit e = sym (lt-ltb 0x40D0000000000000 ((high * 4294967296 + low) % 0x8000000000000000) (omega arith)) ∙ outside-bits (high * 4294967296 + low)
+
+  pub at-limit : high % 0x80000000 ≡ 0x40D00000 → ltb 0 low ≡ not (within (high * 4294967296 + low))
+  at-limit e = go (ltb 0 low) refl ∙ outside-bits (high * 4294967296 + low)
+    where
+      go : (p : Bool) → ltb 0 low ≡ p → p ≡ ltb 0x40D0000000000000 ((high * 4294967296 + low) % 0x8000000000000000)
+      go true q = let k = ltb-true 0 low q in sym (lt-ltb 0x40D0000000000000 ((high * 4294967296 + low) % 0x8000000000000000) (omega arith))
+      go false q = let k = ltb-false 0 low q in sym (le-ltb 0x40D0000000000000 ((high * 4294967296 + low) % 0x8000000000000000) (omega arith))

@@ -185,10 +185,20 @@ pub fn find_atom(b: &[u8], h: Head) -> usize
     0
 }
 
-pub fn is_outside(x: u64) -> bool
-    ensures { λ r. ⌜ r ≡ not (within x) ⌝ }
+// Check 8 of the coordinate at a place, on its bits. The low half of the limit's bits is 0, so the high half nearly always decides.
+pub fn is_outside(b: &[u8], at: usize) -> bool
+    requires { ⌜ at + 8 ≤ length (now b) ⌝ }
+    ensures { λ r. ⌜ r ≡ not (within (u64At (now (b .entry)) at)) ⌝ }
 {
-    0x40D0_0000_0000_0000 < x % 0x8000_0000_0000_0000
+    let high = u32_at(b, at) % 0x8000_0000;
+    let low = u32_at(b, at + 4);
+    if high < 0x40D0_0000 {
+        return false;
+    }
+    if 0x40D0_0000 < high {
+        return true;
+    }
+    0 < low
 }
 
 pub fn is_bad_coordinate(b: &[u8], h: Head, a: usize) -> bool
@@ -196,13 +206,13 @@ pub fn is_bad_coordinate(b: &[u8], h: Head, a: usize) -> bool
     ensures { λ r. ⌜ r ≡ badCoordinate (now (b .entry)) h a ⌝ }
 {
     let at = atom_at(h, a);
-    if is_outside(u64_at(b, at + 9)) {
+    if is_outside(b, at + 9) {
         return true;
     }
-    if is_outside(u64_at(b, at + 17)) {
+    if is_outside(b, at + 17) {
         return true;
     }
-    is_outside(u64_at(b, at + 25))
+    is_outside(b, at + 25)
 }
 
 pub fn find_coordinate(b: &[u8], h: Head) -> usize

@@ -2,10 +2,10 @@
 use job::Head;
 use vectors::Vec3;
 ghost use mathlib.Core.Path.{_≡_};
-ghost use Prim.Native.Nat.{ℕ, _≤_, _<_};
+ghost use Prim.Native.Nat.{_≤_, _<_};
 ghost use lib.ListN.{length};
 ghost use Rattle.job.specs.Layout.{Whole};
-ghost use Rattle.places.specs.Places.{placeOf, far, farBy};
+ghost use Rattle.places.specs.Places.{placeOf, far};
 
 // The position of atom a, counted from 1, narrowed.
 pub fn place(b: &[u8], h: Head, a: usize) -> Vec3
@@ -24,12 +24,4 @@ pub fn is_long(p: Vec3, q: Vec3) -> bool
     ensures { λ r. ⌜ r ≡ far p q ⌝ }
 {
     5.0 < q.sub(p).length()
-}
-
-// The same between atoms a and c, counted from 1.
-pub fn is_far(b: &[u8], h: Head, a: usize, c: usize) -> bool
-    requires { ⌜ Whole (now b) h × (0 < a) × (a ≤ h .atoms) × (0 < c) × (c ≤ h .atoms) ⌝ }
-    ensures { λ r. ⌜ r ≡ farBy (placeOf (now (b .entry)) h) a c ⌝ }
-{
-    is_long(place(b, h, a), place(b, h, c))
 }
