@@ -2,7 +2,8 @@
  *
  * A buffer is a pointer and its length in places. The buffers of one call must not overlap, and an empty one may be null.
  * Nothing else is demanded: every job and every length has an answer, and a refused call changes no output buffer.
- * What each call answers, and what it leaves in every buffer, is set out in crates/ribbon/specs/Calls.antt and proved. */
+ * What each call answers, and what it leaves in every buffer, is set out in crates/ribbon/specs/Calls.antt
+ * and, for the reader, crates/pdb_reader/specs/Call.antt, and proved. */
 #ifndef RIBBON_H
 #define RIBBON_H
 
@@ -28,6 +29,11 @@ void ribbon_plan(const uint8_t *job, size_t job_len, size_t k, uint32_t *words, 
 /* Where tube k's triangles stand in the caller's own triangle buffer: the part begins at place *start and has as many places as the
  * answer says; both are 0 where there is no such part. */
 size_t ribbon_tube(const uint32_t *tubes, size_t tubes_len, const uint32_t *triangles, size_t triangles_len, size_t k, size_t *start);
+
+/* Reads a PDB file's ATOM, HELIX and SHEET lines, up to the first ENDMDL or a second MODEL, and writes the job to the front of job_out; a
+ * refused file changes no place of it, and places past the job stay. answer: 0, the job's size, 0, 0; or a refusal's number, 12 to 16, what
+ * it carries (the line, counted from 1, for 12 to 14, 0 for 15, the size needed for 16), 0, 0. 2,752,738 bytes hold every job. */
+void ribbon_read_pdb(const uint8_t *file, size_t file_len, uint8_t *job_out, size_t job_out_len, uint32_t answer[4]);
 
 #ifdef __cplusplus
 }

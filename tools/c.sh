@@ -16,7 +16,7 @@ if ! command -v "$cc" >/dev/null; then
 fi
 
 compile() { # PROGRAM LIBRARY [WORD ...]: examples/PROGRAM.c to target/examples/PROGRAM
-    [ -f "target/staticlib/lib$2.a" ] || rt staticlib "$2" >&2
+    fresh "target/staticlib/lib$2.a" || rt staticlib "$2" >&2
     "$cc" -std=c11 -Wall -Wextra -Werror -O2 -static -I include "${@:3}" "examples/$1.c" "target/staticlib/lib$2.a" -lm -o "target/examples/$1"
 }
 

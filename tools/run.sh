@@ -4,18 +4,24 @@ command -v rt >/dev/null || { echo "the Rattle kit's command 'rt' is not on the 
 kit=${RATTLE_HOME:-$(dirname "$(dirname "$(readlink -f "$(command -v rt)")")")}
 tools=$kit/on/$(uname -m)/toolchain
 
+fresh() { # FILE: it is there, and no source is newer
+    [ -e "$1" ] && [ -z "$(find "$root/crates" -name '*.rt' -newer "$1" -print -quit)" ]
+}
+
 build() { # NAME
-    [ -x "$root/target/bin/$1" ] && return
+    fresh "$root/target/bin/$1" && return
     echo "building $1, which proves what it stands on; this takes some minutes the first time" >&2
     (cd "$root" && rt check "$1") >&2
+    touch "$root/target/bin/$1"
 }
 
-command_of() { # NAME: the words that run it
-    [ -x "$tools/bin/qemu-x86_64" ] && printf '%s ' "$tools/bin/qemu-x86_64"
-    printf '%s --library-path %s %s' "$tools/lib/ld-linux-x86-64.so.2" "$tools/lib" "$root/target/bin/$1"
+command_of() { # NAME: leaves the words that run it in the array `words`, one to a place, since a path may hold blanks
+    words=()
+    [ -x "$tools/bin/qemu-x86_64" ] && words+=("$tools/bin/qemu-x86_64")
+    words+=("$tools/lib/ld-linux-x86-64.so.2" --library-path "$tools/lib" "$root/target/bin/$1")
 }
 
-run() { # NAME
-    # shellcheck disable=SC2046
-    exec $(command_of "$1")
+run() { # NAME [ARGUMENT ...]
+    command_of "$1"
+    exec "${words[@]}" "${@:2}"
 }

@@ -13,9 +13,11 @@ use std::{
 
 use crate::{
     angles,
-    generator::request,
+    generator::Kind,
     job::{NONE, RawJob},
-    protocol::{BUILD, NAMES, Request, TOO_LONG, TUBE, answer, decode_words, places, read_answer},
+    protocol::{
+        BUILD, NAMES, READ, Request, TOO_LONG, TUBE, answer, decode_words, places, read_answer,
+    },
     shrink::shrink,
 };
 
@@ -26,6 +28,7 @@ const HEX: &str = "the request in hexadecimal";
 pub struct Options {
     /// The program and its arguments.
     pub batch: Vec<String>,
+    pub kind: Kind,
     pub jobs: u64,
     pub seed: u64,
     /// Where a difference is written.
@@ -37,11 +40,14 @@ pub struct Options {
 pub struct Tally {
     pub meshes: u64,
     pub plans: u64,
-    pub refusals: [u64; 12],
+    pub refusals: [u64; 17],
     pub empty_parts: u64,
     pub parts: u64,
     pub passed_over: u64,
     pub vertices: u64,
+    /// Jobs written from files, and their bytes.
+    pub jobs: u64,
+    pub job_bytes: u64,
 }
 
 impl Tally {
@@ -54,6 +60,10 @@ impl Tally {
                 self.meshes += 1;
                 self.vertices += a[2] as u64;
             }
+            (READ, 0) => {
+                self.jobs += 1;
+                self.job_bytes += a[1] as u64;
+            }
             (_, 0) => self.plans += 1,
             (_, number) => self.refusals[number as usize] += 1,
         }
@@ -61,8 +71,15 @@ impl Tally {
 
     pub fn text(&self) -> String {
         let mut out = format!(
-            "meshes {} ({} vertices), plans {}, tube parts {}, empty parts {}, passed over {}, refusals",
-            self.meshes, self.vertices, self.plans, self.parts, self.empty_parts, self.passed_over
+            "meshes {} ({} vertices), plans {}, tube parts {}, empty parts {}, jobs of files {} ({} bytes), passed over {}, refusals",
+            self.meshes,
+            self.vertices,
+            self.plans,
+            self.parts,
+            self.empty_parts,
+            self.jobs,
+            self.job_bytes,
+            self.passed_over
         );
         for (number, count) in self.refusals.iter().enumerate().skip(1) {
             out.push_str(&format!(" {number}: {count}"));
@@ -157,11 +174,11 @@ pub fn compare(o: &Options) -> Result<bool, String> {
     let mut stdin = child.0.stdin.take().expect("piped");
     let mut stdout = BufReader::with_capacity(1 << 20, child.0.stdout.take().expect("piped"));
     let (send, receive) = mpsc::channel::<Request>();
-    let (seed, jobs) = (o.seed, o.jobs);
+    let (kind, seed, jobs) = (o.kind, o.seed, o.jobs);
     // The pipe keeps this thread close to the child, so the channel stays short.
     let writer = thread::spawn(move || {
         for i in 0..jobs {
-            let r = request(seed, i);
+            let r = kind.request(seed, i);
             let bytes = r.encode();
             if send.send(r).is_err() || stdin.write_all(&bytes).is_err() {
                 return;
@@ -261,7 +278,11 @@ pub fn dump(r: &Request) -> String {
     for (name, length) in NAMES.iter().zip(r.lengths) {
         out.push_str(&format!("  {name}: {length}\n"));
     }
-    if r.call == TUBE {
+    if r.call == READ {
+        for (i, line) in r.bytes.split_inclusive(|&b| b == b'\n').enumerate() {
+            out.push_str(&format!("line {}: \"{}\"\n", i + 1, line.escape_ascii()));
+        }
+    } else if r.call == TUBE {
         let mut tubes = decode_words(&r.bytes);
         tubes.truncate(r.lengths[4] as usize);
         for (i, words) in tubes.chunks(5).enumerate() {

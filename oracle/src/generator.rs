@@ -1,10 +1,11 @@
-//! Makes requests: jobs of every kind, each refusal at its boundary, damaged jobs, lent lengths around each need, and tube buffers with
-//! any contents. Request `i` of a seed does not depend on the others, so that a difference can be made again alone.
+//! Makes requests: jobs of every kind, each refusal at its boundary, damaged jobs, lent lengths around each need, tube buffers with any
+//! contents, and PDB files. Request `i` of a seed does not depend on the others, so that a difference can be made again alone.
 
 use crate::{
     calls::{list, needs},
     job::{LIMIT, MAX_RESIDUES, NONE, RawAtom, RawJob, decode, fix_length},
     jobs::{chaos, job},
+    pdb_files,
     protocol::{BUILD, MOST, MOST_BYTES, PLAN, Request, TUBE, encode_words},
     rng::Rng,
     tubes::triangles_of,
@@ -251,15 +252,55 @@ fn refused_request(rng: &mut Rng) -> Request {
         bytes: chaos(rng).bytes(),
     };
     if rng.percent(50) {
-        r.call = rng.pick(&[0, 4, 255]);
+        r.call = rng.pick(&[0, 5, 255]);
     } else {
         r.lengths[rng.between(6, 7) as usize] = u32::MAX;
     }
     r
 }
 
-/// Request `index` of `seed`.
+/// A request to read a PDB file.
+pub fn file_request(seed: u64, index: u64) -> Request {
+    pdb_files::request(&mut Rng::new(seed, index))
+}
+
+/// Which requests are made.
+#[derive(Clone, Copy, Debug, PartialEq, Eq)]
+pub enum Kind {
+    /// Calls 1 to 3.
+    Jobs,
+    /// Call 4.
+    Files,
+    Both,
+}
+
+impl Kind {
+    pub fn by_name(name: &str) -> Option<Kind> {
+        match name {
+            "jobs" => Some(Kind::Jobs),
+            "files" => Some(Kind::Files),
+            "both" => Some(Kind::Both),
+            _ => None,
+        }
+    }
+
+    /// Request `index` of `seed`; of both kinds every third one reads a file.
+    pub fn request(self, seed: u64, index: u64) -> Request {
+        match self {
+            Kind::Files => file_request(seed, index),
+            Kind::Both if index % 3 == 2 => file_request(seed, index),
+            _ => job_request(seed, index),
+        }
+    }
+}
+
+/// Request `index` of `seed`, of both kinds.
 pub fn request(seed: u64, index: u64) -> Request {
+    Kind::Both.request(seed, index)
+}
+
+/// A request of calls 1 to 3.
+pub fn job_request(seed: u64, index: u64) -> Request {
     let mut rng = Rng::new(seed, index);
     let rng = &mut rng;
     match rng.below(1000) {

@@ -1,5 +1,5 @@
-//! The oracle: document 000 (`ribbon_mesh.rs`) compiled over stand-ins which obey 01, the calls that 01 adds around it, a generator of
-//! requests, the stream protocol, and the driver that compares another program with it bit for bit.
+//! The oracle: document 000 (`ribbon_mesh.rs`) compiled over stand-ins which obey 01, the calls that 01 adds around it, a second reading of
+//! 02's files, a generator of requests, the stream protocol, and the driver that compares another program with it bit for bit.
 
 pub mod angles;
 pub mod calls;
@@ -8,6 +8,8 @@ pub mod compare;
 pub mod generator;
 pub mod job;
 pub mod jobs;
+pub mod pdb;
+pub mod pdb_files;
 pub mod plan_text;
 pub mod protocol;
 pub mod record;

@@ -2,6 +2,7 @@
 //! command line gives a message on standard error and exit status 2, a difference exit status 1.
 
 use std::{
+    fs,
     io::{self, BufReader, BufWriter, Read, Write},
     path::Path,
     process::ExitCode,
@@ -11,18 +12,20 @@ use std::{
 use oracle::{
     angles,
     compare::{Options, compare},
-    generator,
+    generator::Kind,
+    pdb::job_of,
     plan_text::plan_text,
-    protocol::{Request, answer, encode_words},
+    protocol::{Request, answer, encode_answer},
     record::record,
     wrong::{self, Mutation},
 };
 
 const USAGE: &str = "usage:
   oracle answer [--wrong MISTAKE]                              requests on standard input, answers on standard output
-  oracle compare --batch PROGRAM [--jobs N] [--seed S] [--out DIR]   compares PROGRAM (split on blanks) with the oracle
-  oracle generate [--jobs N] [--seed S]                        requests on standard output
+  oracle compare [--kind KIND] [--jobs N] [--seed S] [--out DIR] -- PROGRAM [ARGUMENT ...]   compares PROGRAM with the oracle
+  oracle generate [--kind KIND] [--jobs N] [--seed S]          requests on standard output; KIND is jobs, files or both
   oracle record --out DIR                                      writes the recorded answers
+  oracle read-pdb [FILE]                                       the job of a PDB file (or of standard input) on standard output
   oracle plan-text                                             a job on standard input; prints what ribbon-plan prints
   oracle angles                                                the eight cosines and sines of this machine
   oracle mistakes                                              the names that --wrong takes";
@@ -46,6 +49,13 @@ fn number<T: FromStr>(value: Option<String>, otherwise: T) -> Result<T, String> 
     }
 }
 
+fn kind(value: Option<String>) -> Result<Kind, String> {
+    match value {
+        Some(v) => Kind::by_name(&v).ok_or(format!("'{v}' is no kind of requests")),
+        None => Ok(Kind::Both),
+    }
+}
+
 fn run_answer(args: &[String]) -> Result<bool, String> {
     let mistake = match options(args, &["--wrong"])?.remove(0) {
         Some(name) => Some(wrong::by_name(&name).ok_or(format!("unknown mistake '{name}'"))?),
@@ -55,7 +65,7 @@ fn run_answer(args: &[String]) -> Result<bool, String> {
     let mut output = BufWriter::new(io::stdout().lock());
     wrong::with(mistake, || -> io::Result<()> {
         while let Some(r) = Request::read(&mut input)? {
-            output.write_all(&encode_words(&answer(&r)))?;
+            output.write_all(&encode_answer(&r, &answer(&r)))?;
         }
         output.flush()
     })
@@ -64,18 +74,16 @@ fn run_answer(args: &[String]) -> Result<bool, String> {
 }
 
 fn run_compare(args: &[String]) -> Result<bool, String> {
-    let mut o = options(args, &["--batch", "--jobs", "--seed", "--out"])?;
-    let batch: Vec<String> = o[0]
-        .take()
-        .unwrap_or_default()
-        .split_whitespace()
-        .map(str::to_string)
-        .collect();
+    // The program's words come one by one, so that none is split on a blank.
+    let end = args.iter().position(|a| a == "--").unwrap_or(args.len());
+    let batch = args.get(end + 1..).unwrap_or_default().to_vec();
     if batch.is_empty() {
-        return Err("compare needs --batch PROGRAM".to_string());
+        return Err("compare needs -- PROGRAM".to_string());
     }
+    let mut o = options(&args[..end], &["--kind", "--jobs", "--seed", "--out"])?;
     compare(&Options {
         batch,
+        kind: kind(o[0].take())?,
         jobs: number(o[1].take(), 10_000)?,
         seed: number(o[2].take(), 1)?,
         out: o[3].take().unwrap_or(".".to_string()).into(),
@@ -83,12 +91,13 @@ fn run_compare(args: &[String]) -> Result<bool, String> {
 }
 
 fn run_generate(args: &[String]) -> Result<bool, String> {
-    let mut o = options(args, &["--jobs", "--seed"])?;
-    let jobs: u64 = number(o[0].take(), 1000)?;
-    let seed = number(o[1].take(), 1)?;
+    let mut o = options(args, &["--kind", "--jobs", "--seed"])?;
+    let kind = kind(o[0].take())?;
+    let jobs: u64 = number(o[1].take(), 1000)?;
+    let seed = number(o[2].take(), 1)?;
     let mut output = BufWriter::new(io::stdout().lock());
     (0..jobs)
-        .try_for_each(|i| output.write_all(&generator::request(seed, i).encode()))
+        .try_for_each(|i| output.write_all(&kind.request(seed, i).encode()))
         .and_then(|()| output.flush())
         .map(|()| true)
         .map_err(|e| e.to_string())
@@ -99,6 +108,28 @@ fn run_record(args: &[String]) -> Result<bool, String> {
     let out = out.ok_or("record needs --out DIR")?;
     record(Path::new(&out)).map_err(|e| format!("cannot record in {out}: {e}"))?;
     Ok(true)
+}
+
+/// The job on standard output, or the refusal on standard error and exit status 1.
+fn run_read_pdb(args: &[String]) -> Result<bool, String> {
+    let file = match args {
+        [] => {
+            let mut bytes = Vec::new();
+            io::stdin().lock().read_to_end(&mut bytes).map(|_| bytes)
+        }
+        [path] => fs::read(path),
+        _ => return Err("read-pdb takes one file".to_string()),
+    };
+    match job_of(&file.map_err(|e| e.to_string())?) {
+        Ok(job) => {
+            let written = io::stdout().lock().write_all(&job.bytes());
+            written.map(|()| true).map_err(|e| e.to_string())
+        }
+        Err(r) => {
+            eprintln!("refused {} {}", r.number, r.carried[0]);
+            Ok(false)
+        }
+    }
 }
 
 fn run_plan_text(args: &[String]) -> Result<bool, String> {
@@ -119,6 +150,7 @@ fn run(args: &[String]) -> Result<bool, String> {
         "compare" => run_compare(rest),
         "generate" => run_generate(rest),
         "record" => run_record(rest),
+        "read-pdb" => run_read_pdb(rest),
         "plan-text" => run_plan_text(rest),
         "angles" => {
             options(rest, &[])?;

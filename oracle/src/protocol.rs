@@ -1,19 +1,24 @@
 //! The stream protocol of the batch program: requests and answers as bytes, what the lent buffers hold before a call, and the oracle's
 //! own answer to a request. All numbers are big-endian.
 //!
-//! Request: u8 call (1 build, 2 plan, 3 tube); eight u32 lengths in places (positions, normals, tags, triangles, tubes, boxes, scratch
-//! words, scratch floats); u32 k; u32 L; L bytes: the job, or for call 3 the tube buffer and then the triangle buffer.
+//! Request: u8 call (1 build, 2 plan, 3 tube, 4 read PDB); eight u32 lengths in places (positions, normals, tags, triangles, tubes, boxes,
+//! scratch words, scratch floats); u32 k; u32 L; L bytes: the job, for call 3 the tube buffer and then the triangle buffer, for call 4 the
+//! file. Call 4 has the length of the lent job bytes in the place of positions, and 0 for the others and for k.
 //! Answer to 1: number (0: a mesh), three words (K, V, T or the carried values), every place of the eight buffers. To 2: the same four
-//! words, tube k's five words, the two scratch buffers. To 3: the length of the part, then its words. `TOO_LONG` alone answers an
-//! unknown call, a request past the program's arrays, and a tube call whose bytes are not those of its two lengths.
+//! words, tube k's five words, the two scratch buffers. To 3: the length of the part, then its words. To 4: number (0: a job), its size or the
+//! carried value, 0, 0, and every lent byte. Words are four bytes each, but lent bytes are one. `TOO_LONG` alone answers an unknown call, a request past the program's arrays, and a tube call whose bytes are not those of its two lengths.
 
 use std::io::{self, Read};
 
-use crate::calls::{self, Buffers};
+use crate::{
+    calls::{self, Buffers},
+    pdb,
+};
 
 pub const BUILD: u8 = 1;
 pub const PLAN: u8 = 2;
 pub const TUBE: u8 = 3;
+pub const READ: u8 = 4;
 pub const TOO_LONG: u32 = u32::MAX;
 pub const NAN: u32 = 0x7FC0_0000;
 
@@ -41,7 +46,8 @@ pub const MOST: [u32; 8] = [
     8 * 512,
     32 * 512,
 ];
-pub const MOST_BYTES: usize = 262_144;
+/// A file of 16,385 residues fits.
+pub const MOST_BYTES: usize = 1 << 20;
 
 #[derive(Clone, Debug, PartialEq)]
 pub struct Request {
@@ -88,7 +94,9 @@ impl Request {
         let past = |i: usize| self.lengths[i] > MOST[i];
         let places = self.lengths[4] as usize + self.lengths[3] as usize;
         match self.call {
-            BUILD | PLAN | TUBE if self.bytes.len() > MOST_BYTES || (0..8).any(past) => true,
+            _ if self.bytes.len() > MOST_BYTES => true,
+            READ => past(0),
+            BUILD | PLAN | TUBE if (0..8).any(past) => true,
             BUILD | PLAN => false,
             TUBE => self.bytes.len() != 4 * places,
             _ => true,
@@ -112,6 +120,11 @@ fn floats_before(n: u32) -> Vec<f32> {
     (0..n)
         .map(|i| f32::from_bits(0x4000_0000 + i % 65536))
         .collect()
+}
+
+/// What the lent job bytes hold before call 4.
+pub fn job_before(n: u32) -> Vec<u8> {
+    (0..n).map(|i| ((i + 165) % 256) as u8).collect()
 }
 
 /// What the buffers hold before each call.
@@ -141,7 +154,7 @@ fn put_floats(out: &mut Vec<u32>, floats: &[f32]) {
     out.extend(floats.iter().map(|f| float_word(f.to_bits())));
 }
 
-/// The oracle's answer, in words.
+/// The oracle's answer, in words; a lent byte is one word here.
 pub fn answer(r: &Request) -> Vec<u32> {
     if r.too_long() {
         return vec![TOO_LONG];
@@ -149,6 +162,7 @@ pub fn answer(r: &Request) -> Vec<u32> {
     match r.call {
         BUILD => answer_build(r),
         PLAN => answer_plan(r),
+        READ => answer_read(r),
         _ => answer_tube(r),
     }
 }
@@ -199,6 +213,17 @@ fn answer_tube(r: &Request) -> Vec<u32> {
     out
 }
 
+fn answer_read(r: &Request) -> Vec<u32> {
+    let mut lent = job_before(r.lengths[0]);
+    let (number, value) = match pdb::read_pdb(&r.bytes, &mut lent) {
+        Ok(size) => (0, size),
+        Err(e) => (e.number, e.carried[0]),
+    };
+    let mut out = vec![number, value, 0, 0];
+    out.extend(lent.iter().map(|&b| b as u32));
+    out
+}
+
 /// Whole words; bytes past the last one are left out.
 pub fn decode_words(bytes: &[u8]) -> Vec<u32> {
     bytes
@@ -211,6 +236,16 @@ pub fn encode_words(words: &[u32]) -> Vec<u8> {
     words.iter().flat_map(|w| w.to_be_bytes()).collect()
 }
 
+/// An answer to this request as it stands in the stream.
+pub fn encode_answer(r: &Request, words: &[u32]) -> Vec<u8> {
+    if r.call != READ || words.len() < 4 {
+        return encode_words(words);
+    }
+    let mut bytes = encode_words(&words[..4]);
+    bytes.extend(words[4..].iter().map(|&w| w as u8));
+    bytes
+}
+
 /// How many words follow the first word of an answer to this request.
 fn words_after(r: &Request, first: u32) -> usize {
     let sum = |l: &[u32]| l.iter().map(|&n| n as usize).sum::<usize>();
@@ -218,6 +253,7 @@ fn words_after(r: &Request, first: u32) -> usize {
         _ if first == TOO_LONG => 0,
         BUILD => 3 + sum(&r.lengths),
         PLAN => 8 + sum(&r.lengths[6..]),
+        READ => 3,
         TUBE => first as usize,
         _ => 0,
     }
@@ -237,6 +273,13 @@ pub fn read_answer(r: &Request, input: &mut impl Read) -> io::Result<Option<Vec<
     }
     let mut words = vec![first];
     words.extend(decode_words(&bytes));
+    if r.call == READ && first != TOO_LONG {
+        let mut lent = vec![0; r.lengths[0] as usize];
+        if !read_whole(input, &mut lent)? {
+            return Ok(None);
+        }
+        words.extend(lent.iter().map(|&b| b as u32));
+    }
     for (name, range) in places(r, words.len()) {
         if NAMES
             .iter()
@@ -254,6 +297,14 @@ pub fn places(r: &Request, length: usize) -> Vec<(&'static str, std::ops::Range<
     let buffers: &[usize] = match r.call {
         TUBE => return vec![("length of the part", 0..1), ("part", 1..length)],
         _ if length == 1 => return vec![("number", 0..1)],
+        READ => {
+            return vec![
+                ("number", 0..1),
+                ("size or carried value", 1..2),
+                ("zeros", 2..4),
+                ("lent bytes", 4..length),
+            ];
+        }
         BUILD => &[0, 1, 2, 3, 4, 5, 6, 7],
         _ => &[6, 7],
     };

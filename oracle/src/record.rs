@@ -5,8 +5,8 @@ use std::{collections::HashMap, fs, io, path::Path};
 
 use crate::{
     cases,
-    generator::request,
-    protocol::{BUILD, NAMES, PLAN, Request, TOO_LONG, TUBE, answer, encode_words},
+    generator::{file_request, job_request},
+    protocol::{BUILD, NAMES, PLAN, READ, Request, TOO_LONG, TUBE, answer, encode_answer},
 };
 
 const SEED: u64 = 20_250_101;
@@ -24,19 +24,36 @@ fn wanted(call: u8, kind: u32) -> usize {
         (PLAN, 10) => 1,
         (PLAN, 11) => 0,
         (PLAN, _) => 3,
-        _ => 15,
+        (TUBE, _) => 15,
+        (READ, 0) => 50,
+        (READ, 12..=14) => 20,
+        (READ, 16) => 10,
+        _ => 0,
     }
 }
 
-/// The bench cases of 01, then generated requests of every kind.
+/// The kinds of answers to a call. No file here is so large that it gets 15.
+fn kinds(call: u8) -> std::ops::RangeInclusive<u32> {
+    match call {
+        TUBE => 0..=1,
+        READ => 0..=16,
+        _ => 0..=11,
+    }
+}
+
+/// The bench cases of 01, then generated requests of every kind, then files.
 pub fn sample() -> Vec<Request> {
     let mut sample = cases::requests();
+    keep(&mut sample, &[BUILD, PLAN, TUBE], job_request);
+    keep(&mut sample, &[READ], file_request);
+    sample
+}
+
+/// Keeps requests of these calls until there are enough of each kind of answer.
+fn keep(sample: &mut Vec<Request>, calls: &[u8], request: fn(u64, u64) -> Request) {
     let mut kept: HashMap<(u8, u32), usize> = HashMap::new();
-    let total = [BUILD, PLAN, TUBE].map(|call| {
-        let kinds = if call == TUBE { 0..=1 } else { 0..=11 };
-        kinds.map(|kind| wanted(call, kind)).sum::<usize>()
-    });
-    let mut left: usize = total.iter().sum();
+    let total = |&call: &u8| kinds(call).map(|kind| wanted(call, kind)).sum::<usize>();
+    let mut left: usize = calls.iter().map(total).sum();
     for i in 0.. {
         if left == 0 {
             break;
@@ -60,7 +77,6 @@ pub fn sample() -> Vec<Request> {
             sample.push(r);
         }
     }
-    sample
 }
 
 /// The two files' contents: all requests, all answers.
@@ -69,7 +85,7 @@ pub fn files() -> (Vec<u8>, Vec<u8>) {
     let requests = sample.iter().flat_map(Request::encode).collect();
     let answers = sample
         .iter()
-        .flat_map(|r| encode_words(&answer(r)))
+        .flat_map(|r| encode_answer(r, &answer(r)))
         .collect();
     (requests, answers)
 }
@@ -92,8 +108,9 @@ the oracle's answers in the same order. They were made by
     cargo run --release --offline --manifest-path oracle/Cargo.toml -- record --out crates/replay/data
 
 which always gives the same bytes: first the bench cases of 01 (`oracle/src/cases.rs`), then requests of the generator's seed {SEED}, kept until
-there are enough of each call and each kind of answer: meshes, refusals 1 to 11, plans, parts of a triangle buffer and empty parts.
-The longest buffers lent are, in places: {lengths}; the longest bytes of a request {bytes}.
+there are enough of each call and each kind of answer: meshes, refusals 1 to 11, plans, parts of a triangle buffer and empty parts; then PDB
+files, jobs and refusals 12, 13, 14 and 16 (a file that gets 15 has 16,385 residues).
+The longest buffers lent are, in places (for files the lent job bytes count as positions): {lengths}; the longest bytes of a request {bytes}.
 The oracle's tests fail when it answers otherwise; the program `replay` runs them without it. The cosines and sines behind the meshes are those
 of `docs/ANGLES.md`.
 "

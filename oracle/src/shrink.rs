@@ -1,9 +1,9 @@
 //! Makes a request smaller for as long as it still shows a difference: atoms, segments and chains dropped, coordinates made simple,
-//! lent lengths brought down.
+//! lent lengths brought down; of a file lines dropped and cut, and bytes made blank.
 
 use crate::{
     job::{NONE, RawJob, fix_length},
-    protocol::{BUILD, PLAN, Request, TUBE},
+    protocol::{BUILD, PLAN, READ, Request, TUBE},
 };
 
 /// Each try may start a program, so there is an end to them.
@@ -165,6 +165,60 @@ impl<F: FnMut(&Request) -> bool> Shrinker<F> {
         }
     }
 
+    fn lines(&self) -> Vec<Vec<u8>> {
+        let lines = self.best.bytes.split_inclusive(|&b| b == b'\n');
+        lines.map(<[u8]>::to_vec).collect()
+    }
+
+    fn take_lines(&mut self, lines: &[Vec<u8>]) -> bool {
+        self.take(Request {
+            bytes: lines.concat(),
+            ..self.best.clone()
+        })
+    }
+
+    /// Lines of a file: stretches of them dropped, long ones first.
+    fn drop_lines(&mut self) {
+        let mut stretch = self.lines().len().next_power_of_two();
+        while stretch > 0 {
+            let mut at = 0;
+            while at < self.lines().len() {
+                let mut lines = self.lines();
+                let end = (at + stretch).min(lines.len());
+                lines.drain(at..end);
+                if !self.take_lines(&lines) {
+                    at += stretch;
+                }
+            }
+            stretch /= 2;
+        }
+    }
+
+    /// Each line cut before its LF, and its bytes made blank.
+    fn simplify_lines(&mut self) {
+        for i in 0..self.lines().len() {
+            loop {
+                let mut lines = self.lines();
+                let line = &mut lines[i];
+                let end = line.iter().position(|&b| b == b'\n').unwrap_or(line.len());
+                if end == 0 {
+                    break;
+                }
+                line.remove(end - 1);
+                if !self.take_lines(&lines) {
+                    break;
+                }
+            }
+            for at in 0..self.lines()[i].len() {
+                let mut lines = self.lines();
+                if lines[i][at] != b'\n' {
+                    lines[i][at] = b' ';
+                    self.take_lines(&lines);
+                }
+            }
+        }
+    }
+
     fn lower_lengths(&mut self) {
         for i in 0..8 {
             for shift in (0..=16).rev() {
@@ -191,6 +245,13 @@ pub fn shrink(r: &Request, shows: impl FnMut(&Request) -> bool) -> Request {
         BUILD | PLAN => {}
         TUBE => {
             s.cut_places();
+            return s.best;
+        }
+        READ => {
+            s.drop_lines();
+            s.lower_lengths();
+            s.simplify_lines();
+            s.drop_lines();
             return s.best;
         }
         _ => return s.best,

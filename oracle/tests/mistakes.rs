@@ -7,7 +7,7 @@ use oracle::{
 };
 
 const SEED: u64 = 7;
-const WITHIN: u64 = 10_000;
+const WITHIN: u64 = 15_000;
 
 /// The first request at which this mistake shows.
 fn caught(m: Mutation) -> Option<u64> {

@@ -39,33 +39,67 @@ fn folder(name: &str) -> PathBuf {
     folder
 }
 
-fn compare(program: &str, jobs: &str, out: &Path) -> Output {
+fn compare(program: &[&str], jobs: &str, out: &Path) -> Output {
     let out = out.to_str().unwrap();
-    run(
-        &[
-            "compare", "--batch", program, "--jobs", jobs, "--seed", "3", "--out", out,
-        ],
-        &[],
-    )
+    let options = ["compare", "--jobs", jobs, "--seed", "3", "--out", out, "--"];
+    run(&[&options, program].concat(), &[])
 }
 
 #[test]
 fn the_oracle_equals_itself() {
-    let output = compare(&format!("{ORACLE} answer"), "5000", &folder("itself"));
+    let output = compare(&[ORACLE, "answer"], "5000", &folder("itself"));
     let text = String::from_utf8(output.stdout).unwrap();
     assert!(output.status.success(), "{text}");
     assert!(text.contains("all 5000 answers are equal"), "{text}");
 }
 
+/// What is written of the oracle with this mistake.
+fn difference_of(mistake: &str, folder: &Path) -> String {
+    let output = compare(&[ORACLE, "answer", "--wrong", mistake], "5000", folder);
+    assert_eq!(output.status.code(), Some(1));
+    let written: Vec<_> = fs::read_dir(folder).unwrap().collect();
+    assert_eq!(written.len(), 1);
+    fs::read_to_string(written[0].as_ref().unwrap().path()).unwrap()
+}
+
+#[test]
+fn a_wrong_reader_is_caught_and_its_file_shrunk() {
+    let text = difference_of("CalciumIsCa", &folder("wrong-reader"));
+    assert!(text.contains("first difference: lent bytes"), "{text}");
+    // One line of 54 columns is enough, blank where it may be.
+    assert!(
+        text.contains("line 1: \"ATOM  ") && !text.contains("line 2:"),
+        "{text}"
+    );
+    // A segment, two atoms of its start, and perhaps one of its end.
+    let text = difference_of("SegmentFromLastAtom", &folder("wrong-segment"));
+    assert!(
+        text.contains("line 3:") && !text.contains("line 5:"),
+        "{text}"
+    );
+}
+
+#[test]
+fn a_file_read() {
+    let line = b"ATOM      1  CA  GLY A   1       1.000   2.000   3.000";
+    let output = run(&["read-pdb"], line);
+    assert!(output.status.success());
+    assert_eq!(output.stdout.len(), 13 + 1 + 33);
+    let path = folder("a file").join("one atom.pdb");
+    fs::write(&path, line).unwrap();
+    assert_eq!(
+        run(&["read-pdb", path.to_str().unwrap()], &[]).stdout,
+        output.stdout
+    );
+    let refused = run(&["read-pdb"], &line[..53]);
+    assert_eq!(refused.status.code(), Some(1));
+    assert_eq!(refused.stderr, b"refused 12 1\n");
+    assert!(refused.stdout.is_empty());
+}
+
 #[test]
 fn a_wrong_program_is_caught_and_its_job_shrunk() {
-    let folder = folder("wrong");
-    let program = format!("{ORACLE} answer --wrong CutAtFive");
-    let output = compare(&program, "5000", &folder);
-    assert_eq!(output.status.code(), Some(1));
-    let written: Vec<_> = fs::read_dir(&folder).unwrap().collect();
-    assert_eq!(written.len(), 1);
-    let text = fs::read_to_string(written[0].as_ref().unwrap().path()).unwrap();
+    let text = difference_of("CutAtFive", &folder("wrong"));
     // Two atoms are enough to show a step of 5.
     assert!(text.contains("first difference"), "{text}");
     assert!(
@@ -77,9 +111,9 @@ fn a_wrong_program_is_caught_and_its_job_shrunk() {
 
 #[test]
 fn a_program_that_ends_early_is_caught() {
-    for program in ["true", "echo no"] {
+    for program in [&["true"][..], &["echo", "no"]] {
         let output = compare(program, "50", &folder("early"));
-        assert_eq!(output.status.code(), Some(1), "{program}");
+        assert_eq!(output.status.code(), Some(1), "{program:?}");
     }
 }
 
@@ -99,7 +133,7 @@ fn answers_of_the_recorded_requests() {
 fn requests_that_are_passed_over() {
     let good = plan_request(&two_residues(), 0);
     let unknown = Request {
-        call: 4,
+        call: 5,
         ..good.clone()
     };
     let mut too_long = good.clone();
@@ -133,10 +167,13 @@ fn bad_command_lines() {
         &[],
         &["dance"],
         &["compare"],
-        &["compare", "--batch", "", "--jobs", "1"],
-        &["compare", "--batch", "no-such-program-at-all"],
-        &["compare", "--batch", "true", "--jobs", "many"],
-        &["compare", "--batch", "true", "--jobs"],
+        &["compare", "--jobs", "1", "--"],
+        &["compare", "--", "no-such-program-at-all"],
+        &["compare", "--jobs", "many", "--", "true"],
+        &["compare", "--jobs", "--", "true"],
+        &["compare", "--kind", "tubes", "--", "true"],
+        &["read-pdb", "no-such-file-at-all"],
+        &["read-pdb", "a", "b"],
         &["answer", "--wrong", "Nothing"],
         &["record"],
         &["plan-text", "file"],

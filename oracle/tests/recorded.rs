@@ -4,7 +4,7 @@ use std::{collections::HashSet, fs, path::PathBuf};
 
 use oracle::{
     angles,
-    protocol::{BUILD, PLAN, Request, TUBE, answer, encode_words, read_answer},
+    protocol::{BUILD, PLAN, READ, Request, TUBE, answer, encode_answer, read_answer},
     record,
 };
 
@@ -41,6 +41,7 @@ fn they_hold_every_kind_and_are_small() {
     let mut wanted: HashSet<(u8, u32)> = (0..=11).map(|n| (BUILD, n)).collect();
     wanted.extend((0..=10).map(|n| (PLAN, n)));
     wanted.extend([(TUBE, 0), (TUBE, 1)]);
+    wanted.extend([0, 12, 13, 14, 16].map(|n| (READ, n)));
     assert_eq!(kinds, wanted);
 }
 
@@ -51,7 +52,7 @@ fn a_stream_is_read_as_it_was_written() {
         let r = Request::read(&mut input).unwrap().expect("a request");
         assert_eq!(r, expected);
         let words = answer(&r);
-        let read = read_answer(&r, &mut &encode_words(&words)[..]).unwrap();
+        let read = read_answer(&r, &mut &encode_answer(&r, &words)[..]).unwrap();
         assert_eq!(read, Some(words));
     }
     assert_eq!(Request::read(&mut input).unwrap(), None);

@@ -18,5 +18,10 @@ pub fn refusal_numbers(r: Refusal) -> [usize; 4]
         Refusal::NoScratch => [9, 0, 0, 0],
         Refusal::TooManyVertices => [10, 0, 0, 0],
         Refusal::NoRoom(k, v, t) => [11, k, v, t],
+        Refusal::ShortLine(n) => [12, n, 0, 0],
+        Refusal::BadNumber(n) => [13, n, 0, 0],
+        Refusal::AbsentResidue(n) => [14, n, 0, 0],
+        Refusal::PastLimits => [15, 0, 0, 0],
+        Refusal::NoJobRoom(n) => [16, n, 0, 0],
     }
 }

@@ -1,8 +1,8 @@
--- 01's table of refusals: the number and the carried values of each.
+-- The refusals of every call: the number and the carried values of each (01, 'Refusal numbers'; 02 §1, 'Refusals').
 use Prim.Native.Nat.{ℕ}
 use mathlib.Core.List.{List, [], _∷_}
 use Rattle.job.specs.declared.Refusal.{Refusal}
-use Rattle.job.specs.declared.Refusal.the-variants.{BadLength, BadVersion, BadCounts, BadSize, BadVisibility, BadKind, BadAtom, BadCoordinate, NoScratch, TooManyVertices, NoRoom}
+use Rattle.job.specs.declared.Refusal.the-variants.{BadLength, BadVersion, BadCounts, BadSize, BadVisibility, BadKind, BadAtom, BadCoordinate, NoScratch, TooManyVertices, NoRoom, ShortLine, BadNumber, AbsentResidue, PastLimits, NoJobRoom}
 
 -- the column 'No.'
 abbrev pub numberOf : Refusal → ℕ
@@ -17,6 +17,11 @@ numberOf (BadCoordinate i) = 8
 numberOf NoScratch = 9
 numberOf TooManyVertices = 10
 numberOf (NoRoom k v t) = 11
+numberOf (ShortLine n) = 12
+numberOf (BadNumber n) = 13
+numberOf (AbsentResidue n) = 14
+numberOf PastLimits = 15
+numberOf (NoJobRoom n) = 16
 
 -- the column 'Carries'
 abbrev pub carried : Refusal → List ℕ
@@ -31,3 +36,8 @@ carried (BadCoordinate i) = i ∷ []
 carried NoScratch = 0 ∷ []
 carried TooManyVertices = 0 ∷ []
 carried (NoRoom k v t) = k ∷ v ∷ t ∷ []
+carried (ShortLine n) = n ∷ []
+carried (BadNumber n) = n ∷ []
+carried (AbsentResidue n) = n ∷ []
+carried PastLimits = 0 ∷ []
+carried (NoJobRoom n) = n ∷ []

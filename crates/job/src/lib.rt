@@ -17,7 +17,8 @@ pub struct Head {
     pub atoms: u16,
 }
 
-// 01's refusals, 1 to 11, in its order, with what each carries. `numberOf` and `carried` of specs/Refusals set out its table.
+// The refusals of every call in the order of their numbers, with what each carries: 01's 1 to 11, then those of 02 §1, the reader
+// of PDB files, 12 to 16. `numberOf` and `carried` of specs/Refusals set out the tables.
 pub enum Refusal {
     BadLength,
     BadVersion(u8),
@@ -30,6 +31,11 @@ pub enum Refusal {
     NoScratch,
     TooManyVertices,
     NoRoom(usize, usize, usize),
+    ShortLine(usize),
+    BadNumber(usize),
+    AbsentResidue(usize),
+    PastLimits,
+    NoJobRoom(usize),
 }
 
 // What the checks of a job's bytes answer: its counts, or a refusal.

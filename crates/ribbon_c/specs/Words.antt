@@ -2,6 +2,8 @@
 use Prim.Native.Nat.{ℕ, _%_}
 use mathlib.Core.List.{List, [], _∷_, _++_}
 use Rattle.answers.specs.Numbers.{refusalNumbers}
+use Rattle.pdb_reader.specs.declared.Read.{Read}
+use Rattle.pdb_reader.specs.declared.Read.the-variants.{Written, NoJob}
 use Rattle.ribbon.specs.declared.Built.{Built}
 use Rattle.ribbon.specs.declared.Built.the-variants.{Mesh, NoMesh}
 use Rattle.ribbon.specs.declared.Planned.{Planned}
@@ -17,6 +19,11 @@ abbrev pub plannedNumbers : Planned → List ℕ
 plannedNumbers (Plan c f) =
     0 ∷ c .tubes ∷ c .vertices ∷ c .triangles ∷ f .kind ∷ f .first ∷ f .length ∷ f .vertex ∷ f .triangle ∷ []
 plannedNumbers (NoPlan r) = refusalNumbers r ++ (0 ∷ 0 ∷ 0 ∷ 0 ∷ 0 ∷ [])
+
+-- a job that was read: 0 and its size
+abbrev pub readNumbers : Read → List ℕ
+readNumbers (Written n) = 0 ∷ n ∷ 0 ∷ 0 ∷ []
+readNumbers (NoJob r) = refusalNumbers r
 
 -- a number as a word of 32 bits
 abbrev pub wordOf : ℕ → ℕ

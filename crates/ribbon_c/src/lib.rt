@@ -1,5 +1,6 @@
-// The three calls for C and Rust: a slice is a pointer and a length, and an answer is words in a lent array.
+// The calls for C and Rust: a slice is a pointer and a length, and an answer is words in a lent array.
 use job::Refusal;
+use pdb_reader::Read;
 use ribbon::Built;
 use ribbon::Planned;
 ghost use mathlib.Core.Path.{_≡_};
@@ -7,8 +8,9 @@ ghost use lib.ListN.{length};
 ghost use Rattle.answers.specs.Numbers.{refusalNumbers};
 ghost use Rattle.mesh.specs.Outs.{outs};
 ghost use Rattle.ribbon.specs.Calls.{lent, buildAnswer, planAnswer, outsAfter, wordsAfter, floatsAfter};
+ghost use Rattle.pdb_reader.specs.Call.{readAnswer, bufferAfter};
 ghost use Rattle.ribbon_c.specs.Parts.{Part};
-ghost use Rattle.ribbon_c.specs.Words.{wordOf, wordsOf, builtNumbers, plannedNumbers};
+ghost use Rattle.ribbon_c.specs.Words.{wordOf, wordsOf, builtNumbers, plannedNumbers, readNumbers};
 
 fn word(n: usize) -> u32
     ensures { λ r. ⌜ r ≡ wordOf n ⌝ }
@@ -51,6 +53,15 @@ fn planned_words(a: Planned) -> [u32; 9]
             let w = refusal_words(r);
             [w[0], w[1], w[2], w[3], 0, 0, 0, 0, 0]
         }
+    }
+}
+
+fn read_words(a: Read) -> [u32; 4]
+    ensures { λ w. ⌜ w ≡ wordsOf (readNumbers a) ⌝ }
+{
+    match a {
+        Read::Written(n) => [0, word(n), 0, 0],
+        Read::NoJob(r) => refusal_words(r),
     }
 }
 
@@ -121,4 +132,14 @@ pub extern "C" fn ribbon_tube(
     }
     *start = 3 * (tubes[5 * k + 4] as usize);
     n
+}
+
+// The number (0: a job) and the job's size, or a refusal's number and what it carries, go to answer.
+#[no_mangle]
+pub extern "C" fn ribbon_read_pdb(file: &[u8], job: &mut [u8], answer: &mut [u32; 4])
+    ensures { λ _. ⌜ (now (answer .exit) ≡ wordsOf (readNumbers (readAnswer (now (file .entry)) (length (now (job .entry))))))
+        × (now (job .exit) ≡ bufferAfter (now (file .entry)) (now (job .entry))) ⌝ }
+{
+    let a = pdb_reader::read_pdb(file, job);
+    *answer = read_words(a);
 }

@@ -13,7 +13,7 @@ use borrow.Author.Tests.{ltb-true, ltb-false}
 use Rattle.buffers.specs.Put.{put, upto}
 use Rattle.job.specs.Refusals.{numberOf, carried}
 use Rattle.job.specs.declared.Refusal.{Refusal}
-use Rattle.job.specs.declared.Refusal.the-variants.{BadLength, BadVersion, BadCounts, BadSize, BadVisibility, BadKind, BadAtom, BadCoordinate, NoScratch, TooManyVertices, NoRoom}
+use Rattle.job.specs.declared.Refusal.the-variants.{BadLength, BadVersion, BadCounts, BadSize, BadVisibility, BadKind, BadAtom, BadCoordinate, NoScratch, TooManyVertices, NoRoom, ShortLine, BadNumber, AbsentResidue, PastLimits, NoJobRoom}
 use Rattle.answers.specs.Numbers.{refusalNumbers}
 use Rattle.io.specs.Counts.{Counts}
 use Rattle.io.specs.Digits.{digits, Fewest, glyph}
@@ -104,6 +104,11 @@ one-value (BadCoordinate i) h = sym (append-nil _)
 one-value NoScratch h = sym (append-nil _)
 one-value TooManyVertices h = sym (append-nil _)
 one-value (NoRoom k v t) h = absurd (h refl)
+one-value (ShortLine n) h = sym (append-nil _)
+one-value (BadNumber n) h = sym (append-nil _)
+one-value (AbsentResidue n) h = sym (append-nil _)
+one-value PastLimits h = sym (append-nil _)
+one-value (NoJobRoom n) h = sym (append-nil _)
 
 pub three-values : (r : Refusal) → numberOf r ≡ 11
     → field blankName (getD (refusalNumbers r) 1 0) ++ field blankName (getD (refusalNumbers r) 2 0) ++ field blankName (getD (refusalNumbers r) 3 0)
@@ -120,6 +125,11 @@ three-values (BadAtom i) h = absurd (omega (arith, h))
 three-values (BadCoordinate i) h = absurd (omega (arith, h))
 three-values NoScratch h = absurd (omega (arith, h))
 three-values TooManyVertices h = absurd (omega (arith, h))
+three-values (ShortLine n) h = absurd (omega (arith, h))
+three-values (BadNumber n) h = absurd (omega (arith, h))
+three-values (AbsentResidue n) h = absurd (omega (arith, h))
+three-values PastLimits h = absurd (omega (arith, h))
+three-values (NoJobRoom n) h = absurd (omega (arith, h))
 
 -- a count within a list
 pub counts : (n : ℕ) (l : List ℕ) → n ≤ length l → Counts n l

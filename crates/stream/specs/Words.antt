@@ -15,3 +15,7 @@ wordBytes l n = upto (λ (k : ℕ). bytesOf (getD l k 0)) n
 
 unfoldable pub floatBytes : List Float → ℕ → List ℕ
 floatBytes l n = upto (λ (k : ℕ). bytesOf (toBits binary32 (getD l k nan))) n
+
+-- the first n bytes of a list
+unfoldable pub plainBytes : List ℕ → ℕ → List ℕ
+plainBytes l n = upto (λ (k : ℕ). getD l k 0 ∷ []) n

@@ -3,7 +3,7 @@ ghost use mathlib.Core.Path.{_≡_};
 ghost use mathlib.Core.List.{[], _∷_};
 ghost use lib.ListN.{length};
 ghost use Rattle.buffers.specs.Put.{put, upto};
-ghost use Rattle.stream.specs.Patterns.{wordPattern, floatPattern};
+ghost use Rattle.stream.specs.Patterns.{wordPattern, bytePattern, floatPattern};
 
 pub fn fill_words(w: &mut [u32])
     ensures { λ _. ⌜ now (w .exit) ≡ put (now (w .entry)) 0 (upto (λ k. wordPattern k ∷ []) (length (now (w .entry)))) ⌝ }
@@ -11,6 +11,16 @@ pub fn fill_words(w: &mut [u32])
     let mut i = 0;
     while i < w.len() {
         w[i] = 0xc0de_0000 + (i % 65536) as u32;
+        i += 1;
+    }
+}
+
+pub fn fill_bytes(b: &mut [u8])
+    ensures { λ _. ⌜ now (b .exit) ≡ put (now (b .entry)) 0 (upto (λ k. bytePattern k ∷ []) (length (now (b .entry)))) ⌝ }
+{
+    let mut i = 0;
+    while i < b.len() {
+        b[i] = ((i + 165) % 256) as u8;
         i += 1;
     }
 }

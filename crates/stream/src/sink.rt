@@ -3,6 +3,7 @@ ghost use mathlib.Core.Path.{_≡_};
 ghost use Prim.Native.Nat.{_+_, _*_, _≤_, _<_, min};
 ghost use lib.ListN.{length};
 ghost use Rattle.stream.specs.Sinks.{Ready};
+use crate::words::put_bytes;
 use crate::words::put_floats;
 use crate::words::put_words;
 
@@ -118,6 +119,23 @@ pub fn send_floats(s: Sink, out: &mut [u8], f: &[f32]) -> Sink
         let end = i + n;
         put_floats(out, at, &f[i..end]);
         t = advance(t, out, n * 4);
+        i = end;
+    }
+    t
+}
+
+pub fn send_bytes(s: Sink, out: &mut [u8], b: &[u8]) -> Sink
+    requires { ⌜ Ready s (length (now out)) ⌝ }
+    ensures { λ r. ⌜ Ready r (length (now (out .entry))) ⌝ }
+{
+    let mut t = s;
+    let mut i = 0;
+    while i < b.len() {
+        let at = t.at;
+        let n = least(out.len() - at, b.len() - i);
+        let end = i + n;
+        put_bytes(out, at, &b[i..end]);
+        t = advance(t, out, n);
         i = end;
     }
     t

@@ -6,7 +6,7 @@ ghost use lib.ListN.{length};
 ghost use lib.Ieee.{binary32, toBits};
 ghost use Rattle.buffers.specs.Put.{put, upto};
 ghost use Rattle.job.specs.Bytes.{u32At};
-ghost use Rattle.stream.specs.Words.{bytesOf, wordBytes, floatBytes};
+ghost use Rattle.stream.specs.Words.{bytesOf, wordBytes, floatBytes, plainBytes};
 
 // A float's bits, and one pattern for every NaN.
 pub fn float_word(x: f32) -> u32
@@ -46,6 +46,17 @@ pub fn put_floats(out: &mut [u8], at: usize, f: &[f32])
     let mut i = 0;
     while i < f.len() {
         put_word(out, at + i * 4, float_word(f[i]));
+        i += 1;
+    }
+}
+
+pub fn put_bytes(out: &mut [u8], at: usize, b: &[u8])
+    requires { ⌜ at + length (now b) ≤ length (now out) ⌝ }
+    ensures { λ _. ⌜ now (out .exit) ≡ put (now (out .entry)) at (plainBytes (now (b .entry)) (length (now (b .entry)))) ⌝ }
+{
+    let mut i = 0;
+    while i < b.len() {
+        out[at + i] = b[i];
         i += 1;
     }
 }

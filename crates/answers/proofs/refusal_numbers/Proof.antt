@@ -13,8 +13,8 @@ enum-known-r : tie.Need-enum-known-r
 enum-known-r c = search needs
 
 -- src/lib.rt:11:39
-cast-t11 : tie.Need-cast-t11
-cast-t11 c = search needs
+cast-t15 : tie.Need-cast-t15
+cast-t15 c = search needs
 
 -- src/lib.rt:12:31
 enum-told-2 : tie.Need-enum-told-2
@@ -51,6 +51,26 @@ enum-told-5 c = search needs
 -- src/lib.rt:20:25
 enum-known-r-6 : tie.Need-enum-known-r-6
 enum-known-r-6 c = search needs
+
+-- src/lib.rt:21:28
+enum-known-r-7 : tie.Need-enum-known-r-7
+enum-known-r-7 c = search needs
+
+-- src/lib.rt:22:28
+enum-known-r-8 : tie.Need-enum-known-r-8
+enum-known-r-8 c = search needs
+
+-- src/lib.rt:23:32
+enum-known-r-9 : tie.Need-enum-known-r-9
+enum-known-r-9 c = search needs
+
+-- src/lib.rt:24:32
+enum-told-6 : tie.Need-enum-told-6
+enum-told-6 c = search needs
+
+-- src/lib.rt:25:28
+enum-known-r-10 : tie.Need-enum-known-r-10
+enum-known-r-10 c = search needs
 
 -- src/lib.rt:6:1
 returns : tie.Need-returns
@@ -96,13 +116,33 @@ returns-10 c = rw (c .enum-told5 .given .1)
 returns-11 : tie.Need-returns-11
 returns-11 c = rw (c .before .r6 .given .1)
 
+-- src/lib.rt:6:1
+returns-12 : tie.Need-returns-12
+returns-12 c = rw (c .before .r7 .given .1)
+
+-- src/lib.rt:6:1
+returns-13 : tie.Need-returns-13
+returns-13 c = rw (c .before .r8 .given .1)
+
+-- src/lib.rt:6:1
+returns-14 : tie.Need-returns-14
+returns-14 c = rw (c .before .r9 .given .1)
+
+-- src/lib.rt:6:1
+returns-15 : tie.Need-returns-15
+returns-15 c = rw (c .enum-told6 .given .1)
+
+-- src/lib.rt:6:1
+returns-16 : tie.Need-returns-16
+returns-16 c = rw (c .before .r10 .given .1)
+
 pub refusal-numbers-spec : {M : Type 1} → statement M
 refusal-numbers-spec =
     tie.close
     (tie.spec
     enum-told
     enum-known-r
-    cast-t11
+    cast-t15
     enum-told-2
     enum-told-3
     enum-known-r-2
@@ -112,6 +152,11 @@ refusal-numbers-spec =
     enum-told-4
     enum-told-5
     enum-known-r-6
+    enum-known-r-7
+    enum-known-r-8
+    enum-known-r-9
+    enum-told-6
+    enum-known-r-10
     returns
     returns-2
     returns-3
@@ -122,4 +167,9 @@ refusal-numbers-spec =
     returns-8
     returns-9
     returns-10
-    returns-11)
+    returns-11
+    returns-12
+    returns-13
+    returns-14
+    returns-15
+    returns-16)

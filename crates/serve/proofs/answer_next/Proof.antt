@@ -10,7 +10,7 @@ use Rattle.serve.proofs.answer_next.Tie as tie
 use Rattle.serve.proofs.answer_next.Reads as reads
 use Rattle.serve.proofs.answer_next.Lts as lts
 use Rattle.io.proofs.read_full.Reads as read-full-reads
-use Rattle.serve.proofs.answer.Reads as answer-reads
+use Rattle.replies.proofs.answer.Reads as answer-reads
 use Rattle.stream.proofs.sink.flush.Reads as flush-reads
 
 -- src/lib.rt:334:28

@@ -1,0 +1,35 @@
+-- An index that finds a key among many without a search of them all. Keys fall into 16,384 slots; the index holds, counted from 1, the last key
+-- of each slot and, for each key, the one before it of its own slot.
+use Prim.Native.Nat.{ℕ, _+_, _*_, _/_, _%_, _<_, _≤_}
+use mathlib.Core.List.{List}
+use mathlib.Core.Bool.{Bool}
+use mathlib.Core.Path.{_≡_}
+use lib.Dec.{eqb}
+use lib.ListN.{length, getD}
+use Rattle.job.specs.Search.{last}
+use Rattle.appearance.specs.Order.{order}
+
+-- a key's slot: any function would do; this one spreads the names of a file's residues
+unfoldable pub slot : ℕ → ℕ
+slot x = (x / 256 + x / 2199023255552 * 613) % 16384
+
+-- key i is x
+unfoldable pub isKey : List ℕ → ℕ → ℕ → Bool
+isKey keys x i = eqb (getD keys i 0) x
+
+-- key i is of slot h
+unfoldable pub inSlot : List ℕ → ℕ → ℕ → Bool
+inSlot keys h i = eqb (slot (getD keys i 0)) h
+
+-- the first n keys are indexed
+pub record Index (keys links : List ℕ) (n : ℕ) : Type 0 where
+  pub keys-size : length keys ≡ 16384
+  pub links-size : length links ≡ 32768
+  pub few : n ≤ 16384
+  pub head : (h : ℕ) → h < 16384 → getD links h 0 ≡ last (inSlot keys h) n
+  pub link : (i : ℕ) → i < n → getD links (16384 + i) 0 ≡ last (inSlot keys (slot (getD keys i 0))) i
+
+-- the first n keys are those of l, each once, in the order of first appearance
+pub record Keyed (keys : List ℕ) (n : ℕ) (l : List ℕ) : Type 0 where
+  pub count : n ≡ length (order l)
+  pub key : (i : ℕ) → i < n → getD keys i 0 ≡ getD (order l) i 0

@@ -1,0 +1,41 @@
+// Numbers by first appearance: what they are is mathematics, in specs/Order and proofs/. The code is an index over up to 16,384 keys
+// that finds a key's number.
+ghost use mathlib.Core.Path.{_≡_};
+ghost use Prim.Native.Nat.{_+_, _<_, _≤_};
+ghost use lib.ListN.{set};
+ghost use Rattle.job.specs.Search.{last};
+ghost use Rattle.appearance.specs.Index.{slot, isKey, Index};
+
+fn slot_of(key: u64) -> usize
+    ensures { λ r. ⌜ (r ≡ slot key) × (r < 16384) ⌝ }
+{
+    ((key / 256 + key / 2199023255552 * 613) % 16384) as usize
+}
+
+// The number of a key among the first `n`, counted from 1; 0: it is not there.
+pub fn find(keys: &[u64; 16384], links: &[usize; 32768], n: usize, key: u64) -> usize
+    requires { ⌜ Index (now keys) (now links) n ⌝ }
+    ensures { λ r. ⌜ (r ≡ last (isKey (now (keys .entry)) key) n) × (r ≤ n) ⌝ }
+{
+    let h = slot_of(key);
+    let mut p = links[h];
+    while 0 < p {
+        if keys[p - 1] == key {
+            return p;
+        }
+        p = links[16383 + p];
+    }
+    0
+}
+
+// One key more, which gets the number `n`.
+pub fn enter(keys: &mut [u64; 16384], links: &mut [usize; 32768], n: usize, key: u64)
+    requires { ⌜ (Index (now keys) (now links) n) × (n < 16384) ⌝ }
+    ensures { λ _. ⌜ (now (keys .exit) ≡ set (now (keys .entry)) n key) × (Index (now (keys .exit)) (now (links .exit)) (n + 1)) ⌝ }
+{
+    let h = slot_of(key);
+    let before = links[h];
+    keys[n] = key;
+    links[16384 + n] = before;
+    links[h] = n + 1;
+}

@@ -1,0 +1,34 @@
+use mathlib.Core.Path.{refl}
+use Rattle.coordinates.proofs.Laws.{zero-bits, not-nan, not-nan-neg, plus, minus}
+use borrow.Author.Needs.{needs}
+use Rattle.coordinates.proofs.coordinate_bits.Statement.{statement}
+use Rattle.coordinates.proofs.coordinate_bits.Tie as tie
+
+returns : tie.Need-returns
+returns c = zero-bits _ _ (c .if1 .taken)
+
+int-to-float-q : tie.Need-int-to-float-q
+int-to-float-q c = search needs
+
+float-to-bits-result : tie.Need-float-to-bits-result
+float-to-bits-result c = not-nan-neg _ _ (c .before .before .before .fits .size .fits) refl
+
+returns-2 : tie.Need-returns-2
+returns-2 c = minus _ _ (c .before .before .before .fits .size .fits) refl _ (c .if2 .taken) (c .before .before .if1 .left)
+
+float-to-bits-result-2 : tie.Need-float-to-bits-result-2
+float-to-bits-result-2 c = not-nan _ _ (c .before .before .before .fits .size .fits) refl
+
+returns-3 : tie.Need-returns-3
+returns-3 c = plus _ _ (c .before .before .before .fits .size .fits) refl _ (c .if2 .left)
+
+pub coordinate-bits-spec : {M : Type 1} → statement M
+coordinate-bits-spec =
+    tie.close
+    (tie.spec
+    returns
+    int-to-float-q
+    float-to-bits-result
+    returns-2
+    float-to-bits-result-2
+    returns-3)

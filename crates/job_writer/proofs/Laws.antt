@@ -1,0 +1,95 @@
+-- Writing records one after another, and the whole job. Assumes nothing.
+use Prim.Native.Nat.{ℕ, zero, suc, _+_, _*_}
+use mathlib.Core.Path.{_≡_, refl, sym, ap, _∙_}
+use mathlib.Core.List.{List, [], _∷_, _++_, map}
+use native.Mathlib.Nat.{mul-suc, add-comm}
+use native.Mathlib.Numerals.{add-one}
+use native.Mathlib.Omega.{arith}
+use lib.ListN.{length, set, replicate, length-append, length-replicate}
+use Rattle.buffers.specs.Put.{put, upto}
+use Rattle.buffers.proofs.Puts.{next, put-put}
+use Rattle.job_writer.specs.Bytes.{u16, u32, u64}
+use Rattle.job_writer.specs.Job.{flat, segmentBytes, point, atomBytes, headBytes, jobBytes}
+use Rattle.job_writer.specs.declared.JobAtom.{JobAtom}
+use Rattle.job_writer.specs.declared.JobSegment.{JobSegment}
+
+pub len16 : (n : ℕ) → length (u16 n) ≡ 2
+unfolding u16
+len16 n = refl
+
+pub len32 : (n : ℕ) → length (u32 n) ≡ 4
+unfolding u16 u32
+len32 n = refl
+
+pub len64 : (n : ℕ) → length (u64 n) ≡ 8
+unfolding u16 u32 u64
+len64 n = refl
+
+pub len-point : (x y z : ℕ) → length (point x y z) ≡ 24
+unfolding u16 u32 u64 point
+len-point x y z = refl
+
+-- xs is written, w long, and what comes after it
+pub seq : (l b : List ℕ) (i j w : ℕ) (xs ys : List ℕ) {b′ : List ℕ} → length xs ≡ w → j ≡ i + w → b ≡ put l i xs → b′ ≡ put b j ys → b′ ≡ put l i (xs ++ ys)
+seq l b i j w xs ys q h e e′ = next l b i j xs ys e′ e (h ∙ ap (λ (n : ℕ). i + n) (sym q))
+
+pub two : (l : List ℕ) (j x y : ℕ) → set (set l j x) (j + 1) y ≡ put l j (x ∷ y ∷ [])
+unfolding put
+two l j x y = ap (λ (k : ℕ). set (set l j x) k y) (add-one j)
+
+snoc : (n x : ℕ) → replicate n x ++ (x ∷ []) ≡ replicate (suc n) x
+snoc zero x = refl
+snoc (suc n) x = ap (λ (l : List ℕ). x ∷ l) (snoc n x)
+
+pub upto-replicate : (x n : ℕ) → replicate n x ≡ upto (λ (j : ℕ). x ∷ []) n
+unfolding upto
+upto-replicate x zero = refl
+upto-replicate x (suc n) = sym (snoc n x) ∙ ap (λ (l : List ℕ). l ++ (x ∷ [])) (upto-replicate x n)
+
+-- ---- how long the records are
+pub wide-segment : (g : JobSegment) → length (segmentBytes g) ≡ 9
+unfolding segmentBytes u32 u16
+wide-segment g = refl
+
+pub wide-atom : (a : JobAtom) → length (atomBytes a) ≡ 33
+unfolding atomBytes point u64 u32 u16
+wide-atom a = refl
+
+pub length-head : (v w c r s a : ℕ) → length (headBytes v w c r s a) ≡ 13
+unfolding headBytes u32 u16
+length-head v w c r s a = refl
+
+pub length-flat : {A : Type 0} (f : A → List ℕ) (w : ℕ) → ((x : A) → length (f x) ≡ w) → (l : List A) → length (flat f l) ≡ w * length l
+unfolding flat
+length-flat f w h [] = omega arith
+length-flat f w h (x ∷ l) =
+    length-append (f x) (flat f l) ∙ ap (λ (n : ℕ). n + length (flat f l)) (h x) ∙ ap (λ (n : ℕ). w + n) (length-flat f w h l)
+    ∙ sym (mul-suc w (length l) ∙ add-comm (w * length l) w)
+
+-- ---- writing what is left: the whole is what is there with the rest put behind it
+module _ {A B : Type 0} (f : B → List ℕ) (h : A → B) (w : ℕ) (wide : (b : B) → length (f b) ≡ w) (whole out : List ℕ) (o : ℕ) (g : List A)
+    (inv : whole ≡ put out o (flat f (map h g))) where
+  pub left-over : g ≡ [] → out ≡ whole
+  unfolding put flat
+  left-over e = sym (inv ∙ rw e)
+
+  pub left-on : (x : A) (r : List A) (b : B) (out′ : List ℕ) (o′ : ℕ) → g ≡ x ∷ r → b ≡ h x → out′ ≡ put out o (f b) → o′ ≡ o + w → whole ≡ put out′ o′ (flat f (map h r))
+  unfolding flat
+  left-on x r b out′ o′ e eb p q =
+      inv ∙ ap (λ (l : List A). put out o (flat f (map h l))) e
+      ∙ sym (put-put out o (f (h x)) (flat f (map h r)))
+      ∙ ap (λ (b : List ℕ). put b (o + length (f (h x))) (flat f (map h r))) (sym (p ∙ ap (λ (c : B). put out o (f c)) eb))
+      ∙ ap (λ (n : ℕ). put out′ n (flat f (map h r))) (ap (λ (n : ℕ). o + n) (wide (h x)) ∙ sym q)
+
+-- ---- the four parts of a job, written one after another
+pub job-made : {A : Type 0} (v w : ℕ) (bytes : A → List ℕ) (c r g a : ℕ) (gs : List JobSegment) (ats : List A) → g ≡ length gs → a ≡ length ats
+    → (out b₁ b₂ b₃ b₄ : List ℕ) → b₁ ≡ put out 0 (headBytes v w c r g a) → b₂ ≡ put b₁ 13 (replicate c 1)
+    → b₃ ≡ put b₂ (13 + c) (flat segmentBytes gs) → b₄ ≡ put b₃ (13 + c + 9 * g) (flat bytes ats)
+    → b₄ ≡ put out 0 (jobBytes v w bytes c r gs ats)
+unfolding jobBytes
+job-made v w bytes c r g a gs ats eg ea out b₁ b₂ b₃ b₄ e₁ e₂ e₃ e₄ =
+    seq out b₁ 0 13 13 (headBytes v w c r g a) _ (length-head v w c r g a) refl e₁
+    (seq b₁ b₂ 13 (13 + c) c (replicate c 1) _ (length-replicate c 1) refl e₂
+    (seq b₂ b₃ (13 + c) (13 + c + 9 * g) (9 * g) (flat segmentBytes gs) _ (length-flat segmentBytes 9 wide-segment gs ∙ ap (λ (n : ℕ). 9 * n) (sym eg)) refl e₃ e₄))
+    ∙ ap (λ (n : ℕ). put out 0 (headBytes v w c r n a ++ (replicate c 1 ++ (flat segmentBytes gs ++ flat bytes ats)))) eg
+    ∙ ap (λ (n : ℕ). put out 0 (headBytes v w c r (length gs) n ++ (replicate c 1 ++ (flat segmentBytes gs ++ flat bytes ats)))) ea

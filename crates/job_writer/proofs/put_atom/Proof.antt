@@ -1,0 +1,66 @@
+use Prim.Native.Nat.{_+_}
+use mathlib.Core.Path.{_≡_, refl}
+use native.Mathlib.Omega.{arith}
+use Rattle.job_writer.specs.Job.{atomBytes}
+use Rattle.job_writer.proofs.Laws.{seq, len16, len32}
+use borrow.Author.Needs.{needs}
+use Rattle.job_writer.proofs.put_atom.Statement.{statement}
+use Rattle.job_writer.proofs.put_atom.Tie as tie
+
+put-u32-requires : tie.Need-put-u32-requires
+put-u32-requires c κs = search needs
+
+add-put-byte : tie.Need-add-put-byte
+add-put-byte c = search needs
+
+put-byte-requires : tie.Need-put-byte-requires
+put-byte-requires c κs = search needs
+
+add-put-u16 : tie.Need-add-put-u16
+add-put-u16 c = search needs
+
+put-u16-requires : tie.Need-put-u16-requires
+put-u16-requires c κs = search needs
+
+add-put-u16-2 : tie.Need-add-put-u16-2
+add-put-u16-2 c = search needs
+
+put-u16-requires-2 : tie.Need-put-u16-requires-2
+put-u16-requires-2 c κs = search needs
+
+add-put-point : tie.Need-add-put-point
+add-put-point c = search needs
+
+put-point-requires : tie.Need-put-point-requires
+put-point-requires c κs = search needs
+
+same-length : tie.Need-same-length
+same-length c = search needs
+
+returns : tie.Need-returns
+unfolding atomBytes
+returns c =
+    let a = c .before .before .before .before .before .before .before .before .before .before .before .before .before .before .before .before .before .before .before .before .before .args .at in
+    let h : a + 5 ≡ a + 4 + 1 = omega arith in
+    let i : a + 7 ≡ a + 5 + 2 = omega arith in
+    let j : a + 9 ≡ a + 7 + 2 = omega arith in
+    seq _ _ _ _ 4 _ _ (len32 _) refl (c .before .before .before .before .before .before .before .before .before .before .before .before .before .before .before .before .before .before .put-u32 .ensures)
+    (seq _ _ _ _ 1 _ _ refl h (c .before .before .before .before .before .before .before .before .before .before .before .before .before .before .put-byte .ensures)
+    (seq _ _ _ _ 2 _ _ (len16 _) i (c .before .before .before .before .before .before .before .before .before .before .put-u16 .ensures)
+    (seq _ _ _ _ 2 _ _ (len16 _) j (c .before .before .before .before .before .before .put-u162 .ensures) (c .before .before .put-point .ensures))))
+
+pub put-atom-spec : {M : Type 1} → statement M
+put-atom-spec =
+    tie.close
+    (tie.spec
+    put-u32-requires
+    add-put-byte
+    put-byte-requires
+    add-put-u16
+    put-u16-requires
+    add-put-u16-2
+    put-u16-requires-2
+    add-put-point
+    put-point-requires
+    same-length
+    returns)

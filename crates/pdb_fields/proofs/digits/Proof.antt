@@ -1,0 +1,84 @@
+use Prim.Native.Nat.{_≤_, _<_, _-_, _+_}
+use mathlib.Core.Path.{_≡_, refl, sym, _∙_}
+use native.Mathlib.Omega.{arith}
+use lib.ListN.{length, take, drop, getD}
+use borrow.Author.Needs.{needs}
+use Prim.Native.Nat.{_^_}
+use Rattle.pdb_fields.specs.Numbers.{run, isDigit, decimal}
+use Rattle.pdb_fields.proofs.Laws.{run-over, run-no, run-turn, digits-stop, digit-from, digit-to, decimal-more, grown, small}
+use Rattle.pdb_fields.proofs.digits.Statement.{statement}
+use Rattle.pdb_fields.proofs.digits.Tie as tie
+
+abbrev Inv-loop : tie.InvT-loop
+Inv-loop l i v k₀ value₀ k value = (i ≤ k) × (k ≤ length l) × (i + run isDigit (drop i l) ≡ k + run isDigit (drop k l)) × (decimal v (take (run isDigit (drop i l)) (drop i l)) ≡ decimal value (take (run isDigit (drop k l)) (drop k l))) × (value < 10 ^ k)
+
+abbrev μ-loop : tie.MeasureT-loop
+μ-loop l i v k₀ value₀ k value = length l - k
+
+loop-holds : tie.Need-loop-holds Inv-loop μ-loop
+loop-holds c = (omega arith, omega arith, refl, refl, c .before .pre .2)
+
+shared-slice-read-b : tie.Need-shared-slice-read-b Inv-loop μ-loop
+shared-slice-read-b c = search needs
+
+is-digit-requires : tie.Need-is-digit-requires Inv-loop μ-loop
+is-digit-requires c κs = search needs
+
+mul-value : tie.Need-mul-value Inv-loop μ-loop
+mul-value c =
+    let k : c .before .before .before .before .loop .k ≤ 8 = omega arith in
+    omega (arith, small (c .before .before .before .before .loop .value) (c .before .before .before .before .loop .k) (c .before .before .before .before .loop .inv .4) k)
+
+sub-value : tie.Need-sub-value Inv-loop μ-loop
+sub-value c = digit-from _ (sym (c .before .is-digit .ensures) ∙ c .if1 .taken)
+
+cast-value : tie.Need-cast-value Inv-loop μ-loop
+cast-value c =
+    let d = sym (c .before .is-digit .ensures) ∙ c .if1 .taken in
+    let b = getD (c .before .before .before .before .before .before .args .l .now) (c .before .before .before .before .loop .k) 0 in
+    omega (arith, digit-from b d, digit-to b d)
+
+add-value : tie.Need-add-value Inv-loop μ-loop
+add-value c =
+    let d = sym (c .before .is-digit .ensures) ∙ c .if1 .taken in
+    let b = getD (c .before .before .before .before .before .before .args .l .now) (c .before .before .before .before .loop .k) 0 in
+    let k : c .before .before .before .before .loop .k ≤ 8 = omega arith in
+    omega (arith, digit-from b d, digit-to b d, small (c .before .before .before .before .loop .value) (c .before .before .before .before .loop .k) (c .before .before .before .before .loop .inv .4) k)
+
+add-k : tie.Need-add-k Inv-loop μ-loop
+add-k c = search needs
+
+loop-less : tie.Need-loop-less Inv-loop μ-loop
+loop-less c = search needs
+
+loop-again : tie.Need-loop-again Inv-loop μ-loop
+loop-again c =
+    let d = sym (c .before .is-digit .ensures) ∙ c .if1 .taken in
+    let h = c .before .before .before .loop-test .taken in
+    let b = getD (c .before .before .before .before .before .before .args .l .now) (c .before .before .before .before .loop .k) 0 in
+    (omega arith, omega arith, run-turn isDigit _ _ _ (c .before .before .before .before .loop .inv .2) h d, c .before .before .before .before .loop .inv .3 ∙ decimal-more (c .before .before .before .before .before .before .args .l .now) (c .before .before .before .before .loop .k) (c .before .before .before .before .loop .value) h d, grown (c .before .before .before .before .loop .value) (b - 48) (c .before .before .before .before .loop .k) (c .before .before .before .before .loop .inv .4) (omega (arith, digit-to b d)))
+
+returns : tie.Need-returns Inv-loop μ-loop
+returns c = (digits-stop _ _ _ _ _ (c .before .before .before .before .loop .inv .2) (c .before .before .before .before .loop .inv .1) (c .before .before .before .before .loop .inv .3) (run-no isDigit _ _ (c .before .before .before .loop-test .taken) (sym (c .before .is-digit .ensures) ∙ c .if1 .left)), c .before .before .before .before .loop .inv .4)
+
+returns-2 : tie.Need-returns-2 Inv-loop μ-loop
+returns-2 c = (digits-stop _ _ _ _ _ (c .before .loop .inv .2) (c .before .loop .inv .1) (c .before .loop .inv .3) (run-over isDigit _ _ (c .loop-test .left)), c .before .loop .inv .4)
+
+pub digits-spec : {M : Type 1} → statement M
+digits-spec =
+    tie.close
+    (tie.spec
+    Inv-loop
+    μ-loop
+    loop-holds
+    shared-slice-read-b
+    is-digit-requires
+    mul-value
+    sub-value
+    cast-value
+    add-value
+    add-k
+    loop-less
+    loop-again
+    returns
+    returns-2)

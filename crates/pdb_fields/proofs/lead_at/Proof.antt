@@ -1,0 +1,20 @@
+use native.Mathlib.Omega.{arith}
+use Rattle.pdb_fields.proofs.Laws.{lead-yes, lead-no, lead-over}
+use borrow.Author.Needs.{needs}
+use Rattle.pdb_fields.proofs.lead_at.Statement.{statement}
+use Rattle.pdb_fields.proofs.lead_at.Tie as tie
+
+shared-slice-read-if2 : tie.Need-shared-slice-read-if2
+shared-slice-read-if2 c = search needs
+
+returns : tie.Need-returns
+returns c = (lead-yes _ _ _ (c .before .before .if1 .taken) (c .if2 .taken), omega arith)
+
+returns-2 : tie.Need-returns-2
+returns-2 c = (lead-no _ _ _ (c .before .before .if1 .taken) (c .if2 .left), omega arith)
+
+returns-3 : tie.Need-returns-3
+returns-3 c = (lead-over _ _ _ (c .if1 .left), omega arith)
+
+pub lead-at-spec : {M : Type 1} → statement M
+lead-at-spec = tie.close (tie.spec shared-slice-read-if2 returns returns-2 returns-3)

@@ -1,0 +1,210 @@
+-- The answers of the call, rung by rung. Assumes nothing.
+use Prim.Native.Nat.{ℕ, _+_, _*_, _<_, _≤_}
+use mathlib.Core.Bool.{Bool, true, false, cond, _||_}
+use mathlib.Core.Path.{_≡_, refl, sym, ap, _∙_, subst}
+use mathlib.Core.List.{List, [], _∷_, map}
+use native.Mathlib.Omega.{arith}
+use lib.Dec.{ltb}
+use lib.ListN.{length, replicate, length-map, length-replicate, getD-replicate}
+use borrow.Author.Tests.{lt-ltb, le-ltb, ltb-false}
+use Rattle.job.specs.Search.{last}
+use Rattle.job.specs.declared.Refusal.the-variants.{PastLimits, NoJobRoom}
+use Rattle.buffers.specs.Put.{put}
+use Rattle.appearance.specs.Order.{member, distinct, numbered}
+use Rattle.job_writer.specs.Job.{flat, segmentBytes, atomBytes, headBytes}
+use Rattle.job_writer.proofs.Laws.{job-made}
+use Rattle.pdb_records.specs.declared.AtomLine.{AtomLine}
+use Rattle.pdb_records.specs.declared.Record.{Record}
+use Rattle.pdb_records.specs.declared.Record.the-variants.{Skipped, Short, BadNumber, AnAtom, ASegment}
+use Rattle.pdb_reading.specs.Reading.{records, segments, atomsOf, segmentsOf, names, letters}
+use Rattle.pdb_reading.specs.Faults.{faultIn, faults, isClean, firstOf, present}
+use Rattle.pdb_reading.specs.declared.Fault.{Fault}
+use Rattle.pdb_reading.specs.declared.Fault.the-variants.{Clean, LineShort, LineWrong, NoResidue}
+use Rattle.pdb_survey.specs.Lines.{ownFaults, ahead}
+use Rattle.pdb_survey.specs.Tables.{Marks, Noted, Surveyed}
+use Rattle.pdb_survey.specs.declared.Counts.{Counts}
+use Rattle.pdb_survey.specs.declared.Overview.{Overview}
+use Rattle.pdb_reader.specs.Counted.{Counted}
+use Rattle.pdb_reader.specs.Structure.{chainsOf, residuesOf, segmentCount, atomCount, sizeOf, toSegment, toAtom, pdbJob}
+use Rattle.pdb_reader.specs.Call.{pastLimits, byFault, readChecks, readAnswer, readBy, bufferAfter}
+use Rattle.pdb_reader.specs.declared.Read.{Read}
+use Rattle.pdb_reader.specs.declared.Read.the-variants.{Written, NoJob}
+
+-- ---- 15: the limits
+or-no : (a b : Bool) → (a || b) ≡ false → (a ≡ false) × (b ≡ false)
+or-no true b e = absurd (let z : _≡_ {A = ℕ} 0 1 = cc in omega arith)
+or-no false b e = (refl, e)
+
+or-yes : (a : Bool) → (a || true) ≡ true
+or-yes true = refl
+or-yes false = refl
+
+pub record Limited (s : List ℕ) : Type 0 where
+  pub chains : chainsOf s ≤ 255
+  pub residues : residuesOf s ≤ 16384
+  pub segments-are : segmentCount s ≤ 65535
+  pub atoms : atomCount s ≤ 65535
+
+pub limited : (s : List ℕ) → pastLimits s ≡ false → Limited s
+unfolding pastLimits
+limited s e =
+    let a = or-no (ltb 255 (chainsOf s)) _ e in
+    let b = or-no (ltb 16384 (residuesOf s)) _ (a .1) in
+    let d = or-no (ltb 65535 (segmentCount s)) _ (b .1) in
+    record {
+      chains = ltb-false 255 (chainsOf s) (a .0);
+      residues = ltb-false 16384 (residuesOf s) (b .0);
+      segments-are = ltb-false 65535 (segmentCount s) (d .0);
+      atoms = ltb-false 65535 (atomCount s) (d .1);
+    }
+
+pub residues-past : (s : List ℕ) → 16384 < residuesOf s → pastLimits s ≡ true
+unfolding pastLimits
+residues-past s h = rw (lt-ltb 16384 (residuesOf s) h) (or-yes (ltb 255 (chainsOf s)))
+
+module _ (s : List ℕ) (c : Counts) (g : ℕ) (C : Counted s c g) where
+  past : (n : ℕ) {a b : ℕ} → a ≡ b → n < a → ltb n b ≡ true
+  past n {a} {b} e h = lt-ltb n b (subst (λ (m : ℕ). n < m) e h)
+
+  within : (n : ℕ) {a b : ℕ} → a ≡ b → a ≤ n → ltb n b ≡ false
+  within n {a} {b} e h = le-ltb n b (subst (λ (m : ℕ). m ≤ n) e h)
+
+  pub past-chains : 255 < c .chains → true ≡ pastLimits s
+  unfolding pastLimits
+  past-chains h = rw (past 255 (C .chains) h)
+
+  module _ (h₁ : c .chains ≤ 255) where
+    pub past-residues : 16384 < c .residues → true ≡ pastLimits s
+    unfolding pastLimits
+    past-residues h = rw (within 255 (C .chains) h₁, past 16384 (C .residues) h)
+
+    module _ (h₂ : c .residues ≤ 16384) where
+      pub past-segments : 65535 < g → true ≡ pastLimits s
+      unfolding pastLimits
+      past-segments h = rw (within 255 (C .chains) h₁, within 16384 (C .residues) h₂, past 65535 (C .segments-are) h)
+
+      pub past-atoms : g ≤ 65535 → ltb 65535 (c .atoms) ≡ pastLimits s
+      unfolding pastLimits
+      past-atoms h = rw (within 255 (C .chains) h₁, within 16384 (C .residues) h₂, within 65535 (C .segments-are) h, C .atoms)
+
+  pub marks-are : (marks : List ℕ) → Marks marks (c .chains) (letters (atomsOf s)) → Marks marks (chainsOf s) (letters (atomsOf s))
+  marks-are marks M = subst (λ (n : ℕ). Marks marks n (letters (atomsOf s))) (C .chains) M
+
+  pub size-is : 13 + c .chains + 9 * g + 33 * c .atoms ≡ sizeOf s
+  size-is = rw (C .chains, C .segments-are, C .atoms)
+
+  -- ---- the job's four parts
+  pub written : (out b₁ b₂ b₃ b₄ : List ℕ) → b₁ ≡ put out 0 (headBytes 1 33 (c .chains) (c .residues) g (c .atoms)) → b₂ ≡ put b₁ 13 (replicate (c .chains) 1)
+      → b₃ ≡ put b₂ (13 + c .chains) (flat segmentBytes (map (toSegment s) (segmentsOf s)))
+      → b₄ ≡ put b₃ (13 + c .chains + 9 * g) (flat atomBytes (map (toAtom s) (atomsOf s))) → b₄ ≡ put out 0 (pdbJob s)
+  unfolding pdbJob
+  written out b₁ b₂ b₃ b₄ e₁ e₂ e₃ e₄ =
+      rw (← C .chains, ← C .residues)
+      (job-made 1 33 atomBytes (c .chains) (c .residues) g (c .atoms) (map (toSegment s) (segmentsOf s)) (map (toAtom s) (atomsOf s))
+      (C .segments-are ∙ sym (length-map (segmentsOf s) (toSegment s))) (C .atoms ∙ sym (length-map (atomsOf s) (toAtom s))) out b₁ b₂ b₃ b₄ e₁ e₂ e₃ e₄)
+
+-- ---- 15 and 16
+module _ (s out : List ℕ) where
+  pub refuse-limits : (r : Read) → r ≡ NoJob PastLimits → pastLimits s ≡ true → r ≡ readChecks s (length out)
+  unfolding readChecks
+  refuse-limits r e m = e ∙ simp m
+
+  module _ (few : pastLimits s ≡ false) (size : ℕ) (is : size ≡ sizeOf s) where
+    pub refuse-room : length out < size → NoJob (NoJobRoom size) ≡ readChecks s (length out)
+    unfolding readChecks
+    refuse-room h = simp (few, lt-ltb (length out) (sizeOf s) (subst (λ (n : ℕ). length out < n) is h)) (ap (λ (n : ℕ). NoJob (NoJobRoom n)) is)
+
+    pub accept : size ≤ length out → Written size ≡ readChecks s (length out)
+    unfolding readChecks
+    accept h = simp (few, le-ltb (length out) (sizeOf s) (subst (λ (n : ℕ). n ≤ length out) is h)) (ap Written is)
+
+-- ---- the survey's tables at the start, and what it told
+pub empty-tables : Noted (replicate 16384 0) (replicate 32768 0) (replicate 32768 0) (replicate 256 0) (record { atoms = 0; residues = 0; chains = 0 }) []
+unfolding last names letters distinct member numbered
+empty-tables = record {
+  atoms = refl;
+  residues = record {
+    index = record {
+      keys-size = length-replicate {A = ℕ} 16384 0;
+      links-size = length-replicate {A = ℕ} 32768 0;
+      few = omega arith;
+      head = λ h l. getD-replicate {A = ℕ} 32768 h 0 0 (omega arith);
+      link = λ i l. absurd (omega arith);
+    };
+    keyed = record { count = refl; key = λ i l. absurd (omega arith) };
+    size = length-replicate {A = ℕ} 32768 0;
+    first = λ i l. absurd (omega arith);
+    last = λ i l. absurd (omega arith);
+  };
+  chains = record { size = length-replicate {A = ℕ} 256 0; count = refl; mark = λ x l. getD-replicate {A = ℕ} 256 x 0 0 l };
+}
+
+-- where no line is at fault, every segment stands ahead
+own-clean-all : (n : ℕ) (rs : List Record) → isClean (ownFaults n rs) ≡ true → ahead rs ≡ length (segments rs)
+unfolding ownFaults ahead segments
+own-clean-all n [] e = refl
+own-clean-all n (Skipped ∷ rs) e = ap (λ (k : ℕ). 0 + k) (own-clean-all (n + 1) rs e) ∙ omega arith
+own-clean-all n (Short ∷ rs) e = absurd (let z : _≡_ {A = ℕ} 0 1 = cc in omega arith)
+own-clean-all n (BadNumber ∷ rs) e = absurd (let z : _≡_ {A = ℕ} 0 1 = cc in omega arith)
+own-clean-all n (AnAtom a ∷ rs) e = ap (λ (k : ℕ). 0 + k) (own-clean-all (n + 1) rs e) ∙ omega arith
+own-clean-all n (ASegment g ∷ rs) e = ap (λ (k : ℕ). 1 + k) (own-clean-all (n + 1) rs e) ∙ omega arith
+
+clean-own : (ats : List AtomLine) (n : ℕ) (rs : List Record) → isClean (faults ats n rs) ≡ true → isClean (ownFaults n rs) ≡ true
+unfolding ownFaults faults
+clean-own ats n [] e = refl
+clean-own ats n (Skipped ∷ rs) e = clean-own ats (n + 1) rs e
+clean-own ats n (Short ∷ rs) e = e
+clean-own ats n (BadNumber ∷ rs) e = e
+clean-own ats n (AnAtom a ∷ rs) e = clean-own ats (n + 1) rs e
+clean-own ats n (ASegment g ∷ rs) e = clean-own ats (n + 1) rs (passed (present ats g) e)
+  where
+    passed : (b : Bool) → isClean (firstOf (cond b Clean (NoResidue n)) (faults ats (n + 1) rs)) ≡ true → isClean (faults ats (n + 1) rs) ≡ true
+    passed true q = q
+    passed false q = absurd (let z : _≡_ {A = ℕ} 0 1 = cc in omega arith)
+
+module _ (s keys links ends marks : List ℕ) (v : Overview) (S : Surveyed s keys links ends marks v) where
+  pub surveyed-past : 16384 < v .counts .residues → pastLimits s ≡ true
+  surveyed-past h = residues-past s (S .more h)
+
+  module _ (few : v .counts .residues ≤ 16384) where
+    pub surveyed-counts : isClean (faultIn s) ≡ true → Counted s (v .counts) (v .ahead)
+    surveyed-counts e =
+        let N = S .noted few in
+        record {
+          chains = N .chains .count;
+          residues = N .residues .keyed .count;
+          segments-are = S .ahead-is few ∙ own-clean-all 1 (records s) (clean-own (atomsOf s) 1 (records s) e);
+          atoms = N .atoms;
+        }
+
+-- ---- the whole answer
+clean-is : (f : Fault) → isClean f ≡ true → f ≡ Clean
+clean-is Clean e = refl
+clean-is (LineShort n) e = absurd (let z : _≡_ {A = ℕ} 0 1 = cc in omega arith)
+clean-is (LineWrong n) e = absurd (let z : _≡_ {A = ℕ} 0 1 = cc in omega arith)
+clean-is (NoResidue n) e = absurd (let z : _≡_ {A = ℕ} 0 1 = cc in omega arith)
+
+module _ (s out : List ℕ) (f : Fault) (ef : f ≡ faultIn s) where
+  -- a fault, or counts past the limits
+  pub refused : (r : Read) → r ≡ byFault f (NoJob PastLimits) → (isClean f ≡ true → pastLimits s ≡ true) → (r ≡ readAnswer s (length out)) × (out ≡ bufferAfter s out)
+  unfolding readAnswer readChecks bufferAfter
+  refused r er past = rw (← ef) (go f er past)
+    where
+      go : (g : Fault) → r ≡ byFault g (NoJob PastLimits) → (isClean g ≡ true → pastLimits s ≡ true)
+          → (r ≡ byFault g (readChecks s (length out))) × (out ≡ readBy (byFault g (readChecks s (length out))) s out)
+      go Clean e p = (e ∙ sym (checks (p refl)), ap (λ (x : Read). readBy x s out) (sym (checks (p refl))))
+        where
+          checks : pastLimits s ≡ true → readChecks s (length out) ≡ NoJob PastLimits
+          checks m = simp m
+      go (LineShort n) e p = (e, refl)
+      go (LineWrong n) e p = (e, refl)
+      go (NoResidue n) e p = (e, refl)
+
+  pub right : isClean f ≡ true → (r : Read) (out′ : List ℕ) → r ≡ readChecks s (length out) → out′ ≡ readBy r s out → (r ≡ readAnswer s (length out)) × (out′ ≡ bufferAfter s out)
+  unfolding readAnswer bufferAfter
+  right c r out′ er eo =
+      let z : byFault (faultIn s) (readChecks s (length out)) ≡ r = ap (λ (g : Fault). byFault g (readChecks s (length out))) (sym ef ∙ clean-is f c) ∙ sym er in
+      (sym z, eo ∙ ap (λ (x : Read). readBy x s out) (sym z))
+
+pub clash : _≡_ {A = Bool} true false → ⊥
+clash e = let z : _≡_ {A = ℕ} 0 1 = cc in omega arith

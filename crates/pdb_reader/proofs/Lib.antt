@@ -1,0 +1,7 @@
+pub mod Faults
+pub mod Records
+pub mod Answers
+pub mod Small
+pub mod Range
+pub mod Lines
+pub mod Demands

@@ -1,0 +1,219 @@
+-- What is true of every atom and segment that a file gives. Assumes nothing.
+use Prim.Native.Nat.{ℕ, zero, suc, _≤_}
+use mathlib.Core.Bool.{Bool, true, false, cond, _||_}
+use mathlib.Core.Path.{_≡_, refl, sym, ap, _∙_, subst}
+use mathlib.Core.List.{List, [], _∷_, map}
+use native.Mathlib.Omega.{arith}
+use lib.Dec.{eqb, ltb}
+use lib.ListN.{length, take, drop}
+use borrow.Author.Tests.{eq-eqb}
+use Rattle.appearance.specs.Order.{member}
+use Rattle.appearance.proofs.Laws.{place-lt, member-distinct}
+use Rattle.job_writer.specs.declared.JobAtom.{JobAtom}
+use Rattle.job_writer.specs.declared.JobSegment.{JobSegment}
+use Rattle.job_writer.proofs.Fine.{Placed, Right}
+use Rattle.coordinates.specs.Coordinate.{bits}
+use Rattle.pdb_lines.specs.Columns.{column, columns, named}
+use Rattle.pdb_fields.specs.Numbers.{whole, thousandths}
+use Rattle.pdb_fields.specs.declared.Number.{Number}
+use Rattle.pdb_fields.specs.declared.Number.the-variants.{Bad, Good}
+use Rattle.pdb_records.specs.Names.{CA, O}
+use Rattle.pdb_records.specs.Records.{roleOf, serialOf, residueOf, bitsOf, with, segmentOf, atomOf, helixOf, sheetOf, kindOf, ofKind}
+use Rattle.pdb_records.specs.declared.Kind.{Kind}
+use Rattle.pdb_records.specs.declared.Kind.the-variants.{Atom, Helix, Sheet, Model, Endmdl, Other}
+use Rattle.pdb_records.specs.declared.Field.{Field}
+use Rattle.pdb_records.specs.declared.Field.the-variants as field
+use Rattle.pdb_records.specs.declared.Record.{Record}
+use Rattle.pdb_records.specs.declared.Record.the-variants.{Skipped, Short, BadNumber, AnAtom, ASegment}
+use Rattle.pdb_records.specs.declared.AtomLine.{AtomLine}
+use Rattle.pdb_records.specs.declared.SegmentLine.{SegmentLine}
+use Rattle.pdb_reading.specs.Reading.{stops, saw, reading, records, atoms, atomsOf, segments, segmentsOf, names, letters}
+use Rattle.pdb_reader.specs.Structure.{toAtom, toSegment, chainsOf, residuesOf, residueOrder, chainOrder}
+use Rattle.pdb_reader.proofs.Small.{thousandths-small}
+use Rattle.pdb_reader.proofs.Range.{within-bits-of, bits-small, never-minus-zero}
+
+-- 'zero always +0': the bits are not those of -0
+abbrev pub NotMinusZero : ℕ → Type 0
+NotMinusZero x = x ≡ 0x8000000000000000 → ⊥
+
+pub record Proper (a : AtomLine) : Type 0 where
+  pub role : a .role ≤ 2
+  pub x : Placed (a .x)
+  pub y : Placed (a .y)
+  pub z : Placed (a .z)
+  pub plus-x : NotMinusZero (a .x)
+  pub plus-y : NotMinusZero (a .y)
+  pub plus-z : NotMinusZero (a .z)
+
+abbrev pub Every : {A : Type 0} → (A → Type 0) → List A → Type 0
+Every P [] = Unit
+Every P (x ∷ l) = P x × Every P l
+
+abbrev Sound : Record → Type 0
+Sound Skipped = Unit
+Sound Short = Unit
+Sound BadNumber = Unit
+Sound (AnAtom a) = Proper a
+Sound (ASegment g) = g .kind ≤ 2
+
+take-le : (k : ℕ) (l : List ℕ) → length (take k l) ≤ k
+take-le zero l = omega arith
+take-le (suc k) [] = omega arith
+take-le (suc k) (x ∷ l) = omega (arith, take-le k l)
+
+placed : (l : List ℕ) (n : ℕ) → length l ≤ 8 → bitsOf (thousandths l) ≡ field.Right n → (Placed n) × (NotMinusZero n)
+placed l n long e = go (thousandths l) refl e
+  where
+    go : (t : Number) → thousandths l ≡ t → bitsOf t ≡ field.Right n → (Placed n) × (NotMinusZero n)
+    go Bad q e = absurd (let z : _≡_ {A = ℕ} 0 1 = cc in omega arith)
+    go (Good m k) q e =
+        let z : bits m k ≡ n = cc in
+        let low : k ≤ 16384000 = omega (arith, thousandths-small l m k long q) in (
+          subst Placed z (record { inside = within-bits-of m k low; small = bits-small m k }),
+          subst NotMinusZero z (never-minus-zero m k),
+        )
+
+role-low : (l : List ℕ) → roleOf l ≤ 2
+unfolding roleOf
+role-low l = go (named CA 13 l) (named O 13 l)
+  where
+    go : (a b : Bool) → cond a 1 (cond b 2 0) ≤ 2
+    go true b = omega arith
+    go false true = omega arith
+    go false false = omega arith
+
+sound-atom : (l : List ℕ) → Sound (atomOf l)
+unfolding atomOf
+sound-atom l =
+    go (ltb (length l) 54) (serialOf (whole (columns 7 11 l))) (residueOf (column 22 l) (whole (columns 23 26 l)) (column 27 l)) (bitsOf (thousandths (columns 31 38 l)))
+    (bitsOf (thousandths (columns 39 46 l))) (bitsOf (thousandths (columns 47 54 l))) refl refl refl
+  where
+    go : (b : Bool) (fs fr fx fy fz : Field) → bitsOf (thousandths (columns 31 38 l)) ≡ fx → bitsOf (thousandths (columns 39 46 l)) ≡ fy → bitsOf (thousandths (columns 47 54 l)) ≡ fz
+        → Sound (cond b Short (with fs (λ s. with fr (λ r. with fx (λ x. with fy (λ y. with fz (λ z.
+        AnAtom (record { serial = s; role = roleOf l; chain = column 22 l; name = r; x = x; y = y; z = z }))))))))
+    go true fs fr fx fy fz ex ey ez = tt
+    go false field.Wrong fr fx fy fz ex ey ez = tt
+    go false (field.Right s) field.Wrong fx fy fz ex ey ez = tt
+    go false (field.Right s) (field.Right r) field.Wrong fy fz ex ey ez = tt
+    go false (field.Right s) (field.Right r) (field.Right x) field.Wrong fz ex ey ez = tt
+    go false (field.Right s) (field.Right r) (field.Right x) (field.Right y) field.Wrong ex ey ez = tt
+    go false (field.Right s) (field.Right r) (field.Right x) (field.Right y) (field.Right z) ex ey ez =
+        let px = placed (columns 31 38 l) x (take-le 8 (drop 30 l)) ex in
+        let py = placed (columns 39 46 l) y (take-le 8 (drop 38 l)) ey in
+        let pz = placed (columns 47 54 l) z (take-le 8 (drop 46 l)) ez in
+        record { role = role-low l; x = px .0; y = py .0; z = pz .0; plus-x = px .1; plus-y = py .1; plus-z = pz .1 }
+
+sound-segment : (t : Bool) (k : ℕ) (a b : Field) → k ≤ 2 → Sound (cond t Short (segmentOf k a b))
+sound-segment true k a b h = tt
+sound-segment false k field.Wrong b h = tt
+sound-segment false k (field.Right s) field.Wrong h = tt
+sound-segment false k (field.Right s) (field.Right e) h = h
+
+sound-line : (k : Kind) (l : List ℕ) → Sound (ofKind k l)
+unfolding ofKind helixOf sheetOf
+sound-line Atom l = sound-atom l
+sound-line Helix l =
+    sound-segment (ltb (length l) 38) 1 (residueOf (column 20 l) (whole (columns 22 25 l)) (column 26 l)) (residueOf (column 32 l) (whole (columns 34 37 l)) (column 38 l)) (omega arith)
+sound-line Sheet l =
+    sound-segment (ltb (length l) 38) 2 (residueOf (column 22 l) (whole (columns 23 26 l)) (column 27 l)) (residueOf (column 33 l) (whole (columns 34 37 l)) (column 38 l)) (omega arith)
+sound-line Model l = tt
+sound-line Endmdl l = tt
+sound-line Other l = tt
+
+sound-reading : (seen : Bool) (ls : List (List ℕ)) → Every Sound (reading seen ls)
+unfolding reading
+sound-reading seen [] = tt
+sound-reading seen (l ∷ ls) = go (stops seen (kindOf l)) (sound-line (kindOf l) l) (sound-reading (saw seen (kindOf l)) ls)
+  where
+    go : (b : Bool) → Sound (ofKind (kindOf l) l) → Every Sound (reading (saw seen (kindOf l)) ls)
+        → Every Sound (cond b [] (ofKind (kindOf l) l ∷ reading (saw seen (kindOf l)) ls))
+    go true h t = tt
+    go false h t = (h, t)
+
+every-atom : (rs : List Record) → Every Sound rs → Every Proper (atoms rs)
+unfolding atoms
+every-atom [] h = tt
+every-atom (Skipped ∷ rs) h = every-atom rs (h .1)
+every-atom (Short ∷ rs) h = every-atom rs (h .1)
+every-atom (BadNumber ∷ rs) h = every-atom rs (h .1)
+every-atom (AnAtom a ∷ rs) h = (h .0, every-atom rs (h .1))
+every-atom (ASegment g ∷ rs) h = every-atom rs (h .1)
+
+every-segment : (rs : List Record) → Every Sound rs → Every (λ (g : SegmentLine). g .kind ≤ 2) (segments rs)
+unfolding segments
+every-segment [] h = tt
+every-segment (Skipped ∷ rs) h = every-segment rs (h .1)
+every-segment (Short ∷ rs) h = every-segment rs (h .1)
+every-segment (BadNumber ∷ rs) h = every-segment rs (h .1)
+every-segment (AnAtom a ∷ rs) h = every-segment rs (h .1)
+every-segment (ASegment g ∷ rs) h = (h .0, every-segment rs (h .1))
+
+-- ---- number k of a list
+every-at : {A : Type 0} (P : A → Type 0) (l : List A) (k : ℕ) (x : A) (r : List A) → Every P l → drop k l ≡ x ∷ r → P x
+every-at P [] zero x r h e = absurd (let z : _≡_ {A = ℕ} 0 1 = cc in omega arith)
+every-at P [] (suc k) x r h e = absurd (let z : _≡_ {A = ℕ} 0 1 = cc in omega arith)
+every-at P (y ∷ l) zero x r h e =
+    let q : y ≡ x = cc in
+    subst P q (h .0)
+every-at P (y ∷ l) (suc k) x r h e = every-at P l k x r (h .1) e
+
+-- number k of a mapped list is the image of number k
+pub record Image {A B : Type 0} (f : A → B) (l : List A) (k : ℕ) (b : B) : Type 0 where
+  pub item : A
+  pub tail : List A
+  pub is : drop k l ≡ item ∷ tail
+  pub image : b ≡ f item
+
+pub map-back : {A B : Type 0} (f : A → B) (l : List A) (k : ℕ) (b : B) (t : List B) → drop k (map f l) ≡ b ∷ t → Image f l k b
+map-back f [] zero b t e = absurd (let z : _≡_ {A = ℕ} 0 1 = cc in omega arith)
+map-back f [] (suc k) b t e = absurd (let z : _≡_ {A = ℕ} 0 1 = cc in omega arith)
+map-back f (y ∷ l) zero b t e =
+    let q : f y ≡ b = cc in
+    record { item = y; tail = l; is = refl; image = sym q }
+map-back f (y ∷ l) (suc k) b t e =
+    let m = map-back f l k b t e in
+    record { item = m .item; tail = m .tail; is = m .is; image = m .image }
+
+-- ---- an atom of a file
+module _ (s : List ℕ) (k : ℕ) where
+  pub atom-proper : (a : AtomLine) (t : List AtomLine) → drop k (atomsOf s) ≡ a ∷ t → Proper a
+  atom-proper a t e = every-at Proper (atomsOf s) k a t (every-atom (records s) (sound-reading false _)) e
+
+  pub segment-proper : (g : SegmentLine) (t : List SegmentLine) → drop k (segmentsOf s) ≡ g ∷ t → g .kind ≤ 2
+  segment-proper g t e = every-at (λ (g : SegmentLine). g .kind ≤ 2) (segmentsOf s) k g t (every-segment (records s) (sound-reading false _)) e
+
+or-true : (a : Bool) → (a || true) ≡ true
+or-true true = refl
+or-true false = refl
+
+pub name-in : (l : List AtomLine) (k : ℕ) (a : AtomLine) (t : List AtomLine) → drop k l ≡ a ∷ t → (member (a .name) (names l) ≡ true) × (member (a .chain) (letters l) ≡ true)
+unfolding member names letters
+name-in [] zero a t e = absurd (let z : _≡_ {A = ℕ} 0 1 = cc in omega arith)
+name-in [] (suc k) a t e = absurd (let z : _≡_ {A = ℕ} 0 1 = cc in omega arith)
+name-in (b ∷ l) zero a t e =
+    let q : b ≡ a = cc in
+    (rw (eq-eqb (a .name) (b .name) (ap (λ (c : AtomLine). c .name) (sym q))), rw (eq-eqb (a .chain) (b .chain) (ap (λ (c : AtomLine). c .chain) (sym q))))
+name-in (b ∷ l) (suc k) a t e =
+    let h = name-in l k a t e in
+    (rw (h .0) (or-true (eqb (a .name) (b .name))), rw (h .1) (or-true (eqb (a .chain) (b .chain))))
+
+-- ---- and of the job's records
+pub atom-right : (s : List ℕ) (k : ℕ) (b : JobAtom) (t : List JobAtom) → drop k (map (toAtom s) (atomsOf s)) ≡ b ∷ t → Right (chainsOf s) (residuesOf s) b
+unfolding member
+atom-right s k b t e =
+    let m = map-back (toAtom s) (atomsOf s) k b t e in
+    let p = atom-proper s k (m .item) (m .tail) (m .is) in
+    let n = name-in (atomsOf s) k (m .item) (m .tail) (m .is) in
+    subst (Right (chainsOf s) (residuesOf s)) (sym (m .image)) (record {
+      role = p .role;
+      residue = place-lt (m .item .name) (residueOrder s) (member-distinct (m .item .name) [] (names (atomsOf s)) ∙ n .0);
+      chain = place-lt (m .item .chain) (chainOrder s) (member-distinct (m .item .chain) [] (letters (atomsOf s)) ∙ n .1);
+      x = p .x;
+      y = p .y;
+      z = p .z;
+    })
+
+pub segment-right : (s : List ℕ) (k : ℕ) (b : JobSegment) (t : List JobSegment) → drop k (map (toSegment s) (segmentsOf s)) ≡ b ∷ t → b .kind ≤ 2
+segment-right s k b t e =
+    let m = map-back (toSegment s) (segmentsOf s) k b t e in
+    subst (λ (g : JobSegment). g .kind ≤ 2) (sym (m .image)) (segment-proper s k (m .item) (m .tail) (m .is))

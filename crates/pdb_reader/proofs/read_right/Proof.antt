@@ -1,0 +1,67 @@
+use native.Mathlib.Omega.{arith}
+use mathlib.Core.Path.{refl, sym, _∙_}
+use Rattle.buffers.proofs.Puts.{kept}
+use Rattle.pdb_reader.proofs.Answers.{limited, size-is, refuse-limits, refuse-room, accept}
+use borrow.Author.Needs.{needs}
+use Rattle.pdb_reader.proofs.read_right.Statement.{statement}
+use Rattle.pdb_reader.proofs.read_right.Tie as tie
+
+is-past-limits-requires : tie.Need-is-past-limits-requires
+is-past-limits-requires c κs = search needs
+
+returns : tie.Need-returns
+returns c = (refuse-limits _ (c .before .before .before .before .args .out .now) _ refl (sym (c .before .is-past-limits .ensures _ (c .before .before .before .before .pre .1)) ∙ c .if1 .taken), refl)
+
+add-size : tie.Need-add-size
+add-size c = let L = limited _ (sym (c .before .before .is-past-limits .ensures _ (c .before .before .before .before .before .pre .1)) ∙ c .before .if1 .left) in
+    let C = c .before .before .before .before .before .pre .1 in
+    omega (arith, C .chains, L .chains)
+
+mul-size : tie.Need-mul-size
+mul-size c = let L = limited _ (sym (c .before .before .is-past-limits .ensures _ (c .before .before .before .before .before .pre .1)) ∙ c .before .if1 .left) in
+    let C = c .before .before .before .before .before .pre .1 in
+    omega (arith, C .segments-are, L .segments-are)
+
+add-size-2 : tie.Need-add-size-2
+add-size-2 c = let L = limited _ (sym (c .before .before .is-past-limits .ensures _ (c .before .before .before .before .before .pre .1)) ∙ c .before .if1 .left) in
+    let C = c .before .before .before .before .before .pre .1 in
+    omega (arith, C .chains, L .chains, C .segments-are, L .segments-are)
+
+mul-size-2 : tie.Need-mul-size-2
+mul-size-2 c = let L = limited _ (sym (c .before .before .before .is-past-limits .ensures _ (c .before .before .before .before .before .before .pre .1)) ∙ c .before .before .if1 .left) in
+    let C = c .before .before .before .before .before .before .pre .1 in
+    omega (arith, C .atoms, L .atoms)
+
+add-size-3 : tie.Need-add-size-3
+add-size-3 c = let L = limited _ (sym (c .before .before .before .is-past-limits .ensures _ (c .before .before .before .before .before .before .pre .1)) ∙ c .before .before .if1 .left) in
+    let C = c .before .before .before .before .before .before .pre .1 in
+    omega (arith, C .chains, L .chains, C .segments-are, L .segments-are, C .atoms, L .atoms)
+
+returns-2 : tie.Need-returns-2
+returns-2 c = (refuse-room _ (c .before .before .before .before .before .before .before .args .out .now) (sym (c .before .before .before .before .is-past-limits .ensures _ (c .before .before .before .before .before .before .before .pre .1)) ∙ c .before .before .before .if1 .left) _ (size-is _ _ _ (c .before .before .before .before .before .before .before .pre .1)) (c .if2 .taken), refl)
+
+write-job-requires : tie.Need-write-job-requires
+write-job-requires c κs = let z = size-is _ _ _ (c .before .before .before .before .before .before .before .before .pre .1) in
+    (c .before .before .before .before .before .before .before .before .pre .0, c .before .before .before .before .before .before .before .before .pre .1, sym (c .before .before .before .before .before .is-past-limits .ensures _ (c .before .before .before .before .before .before .before .before .pre .1)) ∙ c .before .before .before .before .if1 .left, omega (arith, c .before .if2 .left))
+
+same-length : tie.Need-same-length
+same-length c = kept _ _ _ (c .before .before .write-job .ensures)
+
+returns-3 : tie.Need-returns-3
+returns-3 c = (accept _ (c .before .before .before .before .before .before .before .before .before .before .before .args .out .now) (sym (c .before .before .before .before .before .before .before .before .is-past-limits .ensures _ (c .before .before .before .before .before .before .before .before .before .before .before .pre .1)) ∙ c .before .before .before .before .before .before .before .if1 .left) _ (size-is _ _ _ (c .before .before .before .before .before .before .before .before .before .before .before .pre .1)) (c .before .before .before .before .if2 .left), c .before .before .write-job .ensures)
+
+pub read-right-spec : {M : Type 1} → statement M
+read-right-spec =
+    tie.close
+    (tie.spec
+    is-past-limits-requires
+    returns
+    add-size
+    mul-size
+    add-size-2
+    mul-size-2
+    add-size-3
+    returns-2
+    write-job-requires
+    same-length
+    returns-3)

@@ -1,0 +1,44 @@
+-- What the reader answers, and what it leaves in the lent buffer, on every input. This file, with what it cites, is what a user has to believe.
+use Prim.Native.Nat.{ℕ}
+use mathlib.Core.List.{List}
+use mathlib.Core.Bool.{Bool, _||_, cond}
+use lib.ListN.{length}
+use lib.Dec.{ltb}
+use Rattle.buffers.specs.Put.{put}
+use Rattle.job.specs.declared.Refusal.the-variants.{ShortLine, BadNumber, AbsentResidue, PastLimits, NoJobRoom}
+use Rattle.pdb_reading.specs.Faults.{faultIn}
+use Rattle.pdb_reading.specs.declared.Fault.{Fault}
+use Rattle.pdb_reading.specs.declared.Fault.the-variants.{Clean, LineShort, LineWrong, NoResidue}
+use Rattle.pdb_reader.specs.Structure.{chainsOf, residuesOf, segmentCount, atomCount, sizeOf, pdbJob}
+use Rattle.pdb_reader.specs.declared.Read.{Read}
+use Rattle.pdb_reader.specs.declared.Read.the-variants.{Written, NoJob}
+
+-- 15: 'counts past the job's limits' (01: 'C is at most 255, R at most 16,384', and S and A are u16)
+unfoldable pub pastLimits : List ℕ → Bool
+pastLimits s = ltb 255 (chainsOf s) || (ltb 16384 (residuesOf s) || (ltb 65535 (segmentCount s) || ltb 65535 (atomCount s)))
+
+-- 'the first line at fault .. decides among 12 to 14, .. then 15, then 16'
+abbrev pub byFault : Fault → Read → Read
+byFault Clean r = r
+byFault (LineShort n) r = NoJob (ShortLine n)
+byFault (LineWrong n) r = NoJob (BadNumber n)
+byFault (NoResidue n) r = NoJob (AbsentResidue n)
+
+-- 16: 'no job room, with the size needed'
+unfoldable pub readChecks : List ℕ → ℕ → Read
+readChecks s room =
+    cond (pastLimits s) (NoJob PastLimits)
+    (cond (ltb room (sizeOf s)) (NoJob (NoJobRoom (sizeOf s))) (Written (sizeOf s)))
+
+-- THE answer: of the file's bytes and of the lent buffer's length
+unfoldable pub readAnswer : List ℕ → ℕ → Read
+readAnswer s room = byFault (faultIn s) (readChecks s room)
+
+-- 'No output buffer changes under a refusal'; 'Places past what a call writes stay as they were'
+abbrev pub readBy : Read → List ℕ → List ℕ → List ℕ
+readBy (Written n) s out = put out 0 (pdbJob s)
+readBy (NoJob r) s out = out
+
+-- THE final contents of the buffer, which held out
+unfoldable pub bufferAfter : List ℕ → List ℕ → List ℕ
+bufferAfter s out = readBy (readAnswer s (length out)) s out

@@ -1,0 +1,3 @@
+pub mod Structure
+pub mod Call
+pub mod Counted

@@ -1,0 +1,74 @@
+use Prim.Native.Nat.{_≤_, _-_}
+use mathlib.Core.Path.{_≡_, refl, sym, _∙_}
+use mathlib.Core.List.{[]}
+use native.Mathlib.Omega.{arith}
+use lib.ListN.{length}
+use borrow.Author.Needs.{needs}
+use Rattle.pdb_reading.specs.Reading.{rest, records, atoms}
+use Rattle.pdb_reading.specs.Faults.{firstAtom}
+use Rattle.pdb_reading.proofs.Laws.{first-done, first-here, first-on, stepped-done, stepped-got}
+use Rattle.pdb_reading.proofs.first_atom.Statement.{statement}
+use Rattle.pdb_reading.proofs.first_atom.Tie as tie
+
+abbrev Inv-loop : tie.InvT-loop
+Inv-loop s name at₀ seen₀ at seen = (at ≤ length s) × (firstAtom name (atoms (records s)) ≡ firstAtom name (atoms (rest s at seen)))
+
+abbrev μ-loop : tie.MeasureT-loop
+μ-loop s name at₀ seen₀ at seen = length s - at
+
+loop-holds : tie.Need-loop-holds Inv-loop μ-loop
+loop-holds c = (omega arith, refl)
+
+step-requires : tie.Need-step-requires Inv-loop μ-loop
+step-requires c κs = search needs
+
+enum-told : tie.Need-enum-told Inv-loop μ-loop
+enum-told c = search needs
+
+returns : tie.Need-returns Inv-loop μ-loop
+returns c = first-done _ _ _ [] (c .before .before .before .loop .inv .1) (stepped-done _ _ _ _ (c .before .before .step .ensures) (c .enum-told .given .1))
+
+enum-known-n : tie.Need-enum-known-n Inv-loop μ-loop
+enum-known-n c = search needs
+
+found-in-requires : tie.Need-found-in-requires Inv-loop μ-loop
+found-in-requires c κs = search needs
+
+enum-known-f : tie.Need-enum-known-f Inv-loop μ-loop
+enum-known-f c = search needs
+
+returns-2 : tie.Need-returns-2 Inv-loop μ-loop
+returns-2 c =
+    let o = stepped-got _ _ _ _ _ _ _ (c .before .before .before .before .before .before .before .step .ensures) (c .before .before .before .before .before .n .given .1) in
+    first-here _ _ _ _ _ _ (c .before .before .before .before .before .before .before .before .loop .inv .1) (o .is) (sym (c .before .before .before .found-in .ensures) ∙ c .before .f .given .1)
+
+enum-told-2 : tie.Need-enum-told-2 Inv-loop μ-loop
+enum-told-2 c = search needs
+
+loop-less : tie.Need-loop-less Inv-loop μ-loop
+loop-less c =
+    let o = stepped-got _ _ _ _ _ _ _ (c .before .before .before .before .before .before .step .ensures) (c .before .before .before .before .n .given .1) in
+    omega (arith, o .more, o .within)
+
+loop-again : tie.Need-loop-again Inv-loop μ-loop
+loop-again c =
+    let o = stepped-got _ _ _ _ _ _ _ (c .before .before .before .before .before .before .step .ensures) (c .before .before .before .before .n .given .1) in
+    (o .within, first-on _ _ _ _ _ (c .before .before .before .before .before .before .before .loop .inv .1) (o .is) (sym (c .before .before .found-in .ensures) ∙ c .enum-told2 .given .1))
+
+pub first-atom-spec : {M : Type 1} → statement M
+first-atom-spec =
+    tie.close
+    (tie.spec
+    Inv-loop
+    μ-loop
+    loop-holds
+    step-requires
+    enum-told
+    returns
+    enum-known-n
+    found-in-requires
+    enum-known-f
+    returns-2
+    enum-told-2
+    loop-less
+    loop-again)

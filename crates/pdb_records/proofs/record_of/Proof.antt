@@ -1,0 +1,75 @@
+use Rattle.pdb_records.specs.Records.{ofKind}
+use borrow.Author.Needs.{needs}
+use Rattle.pdb_records.proofs.record_of.Statement.{statement}
+use Rattle.pdb_records.proofs.record_of.Tie as tie
+
+enum-told : tie.Need-enum-told
+enum-told c = search needs
+
+atom-of-requires : tie.Need-atom-of-requires
+atom-of-requires c κs = search needs
+
+enum-told-2 : tie.Need-enum-told-2
+enum-told-2 c = search needs
+
+helix-of-requires : tie.Need-helix-of-requires
+helix-of-requires c κs = search needs
+
+enum-told-3 : tie.Need-enum-told-3
+enum-told-3 c = search needs
+
+sheet-of-requires : tie.Need-sheet-of-requires
+sheet-of-requires c κs = search needs
+
+enum-told-4 : tie.Need-enum-told-4
+enum-told-4 c = search needs
+
+enum-told-5 : tie.Need-enum-told-5
+enum-told-5 c = search needs
+
+enum-told-6 : tie.Need-enum-told-6
+enum-told-6 c = search needs
+
+returns : tie.Need-returns
+unfolding ofKind
+returns c = simp (c .before .enum-told .given .1, ← c .atom-of .ensures)
+
+returns-2 : tie.Need-returns-2
+unfolding ofKind
+returns-2 c = simp (c .before .enum-told2 .given .1, ← c .helix-of .ensures)
+
+returns-3 : tie.Need-returns-3
+unfolding ofKind
+returns-3 c = simp (c .before .enum-told3 .given .1, ← c .sheet-of .ensures)
+
+returns-4 : tie.Need-returns-4
+unfolding ofKind
+returns-4 c = simp (c .enum-told4 .given .1)
+
+returns-5 : tie.Need-returns-5
+unfolding ofKind
+returns-5 c = simp (c .enum-told5 .given .1)
+
+returns-6 : tie.Need-returns-6
+unfolding ofKind
+returns-6 c = simp (c .enum-told6 .given .1)
+
+pub record-of-spec : {M : Type 1} → statement M
+record-of-spec =
+    tie.close
+    (tie.spec
+    enum-told
+    atom-of-requires
+    enum-told-2
+    helix-of-requires
+    enum-told-3
+    sheet-of-requires
+    enum-told-4
+    enum-told-5
+    enum-told-6
+    returns
+    returns-2
+    returns-3
+    returns-4
+    returns-5
+    returns-6)

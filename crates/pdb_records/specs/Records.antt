@@ -1,0 +1,95 @@
+-- What a line of a PDB file says.
+use Prim.Native.Nat.{ℕ, _+_, _*_, _-_}
+use mathlib.Core.List.{List}
+use mathlib.Core.Bool.{Bool, true, false, cond}
+use lib.ListN.{length}
+use lib.Dec.{ltb}
+use Rattle.pdb_lines.specs.Columns.{column, columns, named}
+use Rattle.pdb_fields.specs.declared.Number.{Number}
+use Rattle.pdb_fields.specs.declared.Number.the-variants.{Bad, Good}
+use Rattle.pdb_fields.specs.Numbers.{whole, thousandths}
+use Rattle.coordinates.specs.Coordinate.{bits}
+use Rattle.pdb_records.specs.Names.{ATOM, HELIX, SHEET, MODEL, ENDMDL, CA, O}
+use Rattle.pdb_records.specs.declared.Kind.{Kind}
+use Rattle.pdb_records.specs.declared.Kind.the-variants.{Atom, Helix, Sheet, Model, Endmdl, Other}
+use Rattle.pdb_records.specs.declared.Field.{Field}
+use Rattle.pdb_records.specs.declared.Field.the-variants.{Wrong, Right}
+use Rattle.pdb_records.specs.declared.Record.{Record}
+use Rattle.pdb_records.specs.declared.Record.the-variants.{Skipped, Short, BadNumber, AnAtom, ASegment}
+
+unfoldable pub kindOf : List ℕ → Kind
+kindOf l =
+    cond (named ATOM 1 l) Atom
+    (cond (named HELIX 1 l) Helix
+    (cond (named SHEET 1 l) Sheet
+    (cond (named MODEL 1 l) Model
+    (cond (named ENDMDL 1 l) Endmdl Other))))
+
+-- C-alpha 1, backbone oxygen 2, any other atom 0
+unfoldable pub roleOf : List ℕ → ℕ
+roleOf l = cond (named CA 13 l) 1 (cond (named O 13 l) 2 0)
+
+-- a residue's name in one number: chain letter, sequence number by value, insertion code. Equal exactly when all three are.
+abbrev pub nameOf : ℕ → Bool → ℕ → ℕ → ℕ
+nameOf chain minus n icode = (chain * 8589934592 + cond minus (4294967296 - n) (4294967296 + n)) * 256 + icode
+
+abbrev pub serialOf : Number → Field
+serialOf Bad = Wrong
+serialOf (Good true n) = Wrong
+serialOf (Good false n) = Right n
+
+abbrev pub residueOf : ℕ → Number → ℕ → Field
+residueOf chain Bad icode = Wrong
+residueOf chain (Good m n) icode = Right (nameOf chain m n icode)
+
+abbrev pub bitsOf : Number → Field
+bitsOf Bad = Wrong
+bitsOf (Good m n) = Right (bits m n)
+
+-- a right field is handed on
+abbrev pub with : Field → (ℕ → Record) → Record
+with Wrong f = BadNumber
+with (Right n) f = f n
+
+-- ATOM: serial 7-11, name 13-16, chain 22, number 23-26, insertion code 27, x 31-38, y 39-46, z 47-54
+unfoldable pub atomOf : List ℕ → Record
+atomOf l =
+    cond (ltb (length l) 54) Short
+    (with (serialOf (whole (columns 7 11 l))) (λ s.
+    with (residueOf (column 22 l) (whole (columns 23 26 l)) (column 27 l)) (λ r.
+    with (bitsOf (thousandths (columns 31 38 l))) (λ x.
+    with (bitsOf (thousandths (columns 39 46 l))) (λ y.
+    with (bitsOf (thousandths (columns 47 54 l))) (λ z.
+    AnAtom (record { serial = s; role = roleOf l; chain = column 22 l; name = r; x = x; y = y; z = z })))))))
+
+-- a segment from one residue to another
+abbrev pub segmentOf : ℕ → Field → Field → Record
+segmentOf kind a b = with a (λ s. with b (λ e. ASegment (record { kind = kind; start = s; end = e })))
+
+-- HELIX: chain 20, number 22-25, insertion code 26; chain 32, number 34-37, insertion code 38
+unfoldable pub helixOf : List ℕ → Record
+helixOf l =
+    cond (ltb (length l) 38) Short
+    (segmentOf 1
+    (residueOf (column 20 l) (whole (columns 22 25 l)) (column 26 l))
+    (residueOf (column 32 l) (whole (columns 34 37 l)) (column 38 l)))
+
+-- SHEET: chain 22, number 23-26, insertion code 27; chain 33, number 34-37, insertion code 38
+unfoldable pub sheetOf : List ℕ → Record
+sheetOf l =
+    cond (ltb (length l) 38) Short
+    (segmentOf 2
+    (residueOf (column 22 l) (whole (columns 23 26 l)) (column 27 l))
+    (residueOf (column 33 l) (whole (columns 34 37 l)) (column 38 l)))
+
+-- by kind; a line that is none of the three is passed over
+unfoldable pub ofKind : Kind → List ℕ → Record
+ofKind Atom l = atomOf l
+ofKind Helix l = helixOf l
+ofKind Sheet l = sheetOf l
+ofKind Model l = Skipped
+ofKind Endmdl l = Skipped
+ofKind Other l = Skipped
+
+abbrev pub recordOf : List ℕ → Record
+recordOf l = ofKind (kindOf l) l

@@ -1,0 +1,86 @@
+use Prim.Native.Nat.{_-_}
+use lib.ListN.{length}
+use borrow.Author.Needs.{needs}
+use native.Mathlib.Omega.{arith}
+use Rattle.pdb_reading.proofs.Laws.{stepped-done, stepped-got}
+use Rattle.pdb_survey.proofs.Walk.{Surveying, surveying-start, surveying-over, surveying-full, surveying-more}
+use mathlib.Core.Path.{_∙_, ap}
+use Rattle.pdb_reading.specs.Faults.{firstOf}
+use Rattle.pdb_survey.proofs.survey.Statement.{statement}
+use Rattle.pdb_survey.proofs.survey.Tie as tie
+
+abbrev Inv-loop : tie.InvT-loop
+Inv-loop s keys₀ links₀ ends₀ marks₀ at₀ seen₀ line₀ fault₀ ahead₀ counts₀ keys links ends marks at seen line fault ahead counts = Surveying s keys links ends marks at seen line fault ahead counts
+
+abbrev μ-loop : tie.MeasureT-loop
+μ-loop s keys₀ links₀ ends₀ marks₀ at₀ seen₀ line₀ fault₀ ahead₀ counts₀ keys links ends marks at seen line fault ahead counts = length s - at
+
+loop-holds : tie.Need-loop-holds Inv-loop μ-loop
+loop-holds c = surveying-start _ _ _ _ _ (c .before .pre)
+
+step-requires : tie.Need-step-requires Inv-loop μ-loop
+step-requires c κs = c .loop .inv .inside
+
+enum-told : tie.Need-enum-told Inv-loop μ-loop
+enum-told c = search needs
+
+returns : tie.Need-returns Inv-loop μ-loop
+returns c = surveying-over _ _ _ _ _ _ _ _ _ _ _ (c .before .before .before .loop .inv) (stepped-done _ _ _ _ (c .before .before .step .ensures) (c .enum-told .given .1))
+
+enum-known-n : tie.Need-enum-known-n Inv-loop μ-loop
+enum-known-n c = search needs
+
+own-fault-requires : tie.Need-own-fault-requires Inv-loop μ-loop
+own-fault-requires c κs = search needs
+
+first-of-requires : tie.Need-first-of-requires Inv-loop μ-loop
+first-of-requires c κs = search needs
+
+count-segment-requires : tie.Need-count-segment-requires Inv-loop μ-loop
+count-segment-requires c κs = search needs
+
+add-ahead : tie.Need-add-ahead Inv-loop μ-loop
+add-ahead c = let o = stepped-got _ _ _ _ _ _ _ (c .before .before .before .before .before .before .step .ensures) (c .before .before .before .before .n .given .1) in
+    omega (arith, o .more, o .within, c .before .before .before .before .before .before .before .loop .inv .slow-ahead, c .count-segment .ensures .1)
+
+take-in-requires : tie.Need-take-in-requires Inv-loop μ-loop
+take-in-requires c κs = let o = stepped-got _ _ _ _ _ _ _ (c .before .before .before .before .before .before .before .before .before .before .step .ensures) (c .before .before .before .before .before .before .before .before .n .given .1) in
+    (c .before .before .before .before .before .before .before .before .before .before .before .loop .inv .noted .residues .index, c .before .before .before .before .before .before .before .before .before .before .before .loop .inv .few-chains, omega (arith, o .more, o .within, c .before .before .before .before .before .before .before .before .before .before .before .loop .inv .slow-atoms))
+
+returns-2 : tie.Need-returns-2 Inv-loop μ-loop
+returns-2 c = let o = stepped-got _ _ _ _ _ _ _ (c .before .before .before .before .before .before .before .before .before .before .before .before .before .step .ensures) (c .before .before .before .before .before .before .before .before .before .before .before .n .given .1) in
+    surveying-full _ _ _ _ _ _ _ _ _ _ _ (c .before .before .before .before .before .before .before .before .before .before .before .before .before .before .loop .inv) _ _ _ o _ _ _ _ _ _ _ (c .before .before .take-in .ensures .0 _ (c .before .before .before .before .before .before .before .before .before .before .before .before .before .before .loop .inv .noted)) (c .if1 .taken)
+
+add-line : tie.Need-add-line Inv-loop μ-loop
+add-line c = let o = stepped-got _ _ _ _ _ _ _ (c .before .before .before .before .before .before .before .before .before .before .before .before .before .step .ensures) (c .before .before .before .before .before .before .before .before .before .before .before .n .given .1) in
+    omega (arith, o .more, o .within, c .before .before .before .before .before .before .before .before .before .before .before .before .before .before .loop .inv .slow-line)
+
+loop-less : tie.Need-loop-less Inv-loop μ-loop
+loop-less c = let o = stepped-got _ _ _ _ _ _ _ (c .before .before .before .before .before .before .before .before .before .before .before .before .before .step .ensures) (c .before .before .before .before .before .before .before .before .before .before .before .n .given .1) in
+    omega (arith, o .more, o .within)
+
+loop-again : tie.Need-loop-again Inv-loop μ-loop
+loop-again c = let o = stepped-got _ _ _ _ _ _ _ (c .before .before .before .before .before .before .before .before .before .before .before .before .before .step .ensures) (c .before .before .before .before .before .before .before .before .before .before .before .n .given .1) in
+    surveying-more _ _ _ _ _ _ _ _ _ _ _ (c .before .before .before .before .before .before .before .before .before .before .before .before .before .before .loop .inv) _ _ _ o _ _ _ _ _ _ _ (c .before .before .take-in .ensures .0 _ (c .before .before .before .before .before .before .before .before .before .before .before .before .before .before .loop .inv .noted))
+    (c .before .before .before .before .before .before .before .before .first-of .ensures ∙ ap (firstOf (c .before .before .before .before .before .before .before .before .before .before .before .before .before .before .loop .fault)) (c .before .before .before .before .before .before .before .before .before .own-fault .ensures)) (c .before .before .before .before .before .before .before .count-segment .ensures .0) (c .before .before .before .before .before .before .before .count-segment .ensures .1) (c .before .before .take-in .ensures .1) (c .before .before .take-in .ensures .2) (c .if1 .left)
+
+pub survey-spec : {M : Type 1} → statement M
+survey-spec =
+    tie.close
+    (tie.spec
+    Inv-loop
+    μ-loop
+    loop-holds
+    step-requires
+    enum-told
+    returns
+    enum-known-n
+    own-fault-requires
+    first-of-requires
+    count-segment-requires
+    add-ahead
+    take-in-requires
+    returns-2
+    add-line
+    loop-less
+    loop-again)
