@@ -18,6 +18,7 @@ place x (y ∷ l) = cond (eqb x y) 0 (suc (place x l))
 abbrev pub add : List ℕ → ℕ → List ℕ
 add l x = cond (member x l) l (l ++ (x ∷ []))
 
+-- the keys of a list, each once, after those that were seen
 unfoldable pub distinct : List ℕ → List ℕ → List ℕ
 distinct seen [] = seen
 distinct seen (x ∷ l) = distinct (add seen x) l

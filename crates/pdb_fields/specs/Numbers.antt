@@ -12,9 +12,11 @@ unfoldable pub run : (ℕ → Bool) → List ℕ → ℕ
 run t [] = 0
 run t (b ∷ l) = cond (t b) (suc (run t l)) 0
 
+-- a blank is byte 32 alone
 abbrev pub isBlank : ℕ → Bool
 isBlank b = eqb b 32
 
+-- 0 to 9
 abbrev pub isDigit : ℕ → Bool
 isDigit b = leb 48 b && leb b 57
 
@@ -39,6 +41,7 @@ signed f l =
     let u = drop (lead 45 s) s in
     cond (eqb (run isDigit u) 0) Bad (f (eqb (lead 45 s) 1) u (run isDigit u))
 
+-- a whole number: only blanks follow its digits
 abbrev pub endWhole : Bool → List ℕ → ℕ → Number
 endWhole m u d = cond (blank (drop d u)) (Good m (decimal 0 (take d u))) Bad
 
@@ -46,12 +49,15 @@ endWhole m u d = cond (blank (drop d u)) (Good m (decimal 0 (take d u))) Bad
 abbrev pub fraction : List ℕ → Bool
 fraction v = eqb (lead 46 v) 1 && (eqb (run isDigit (drop 1 v)) 3 && blank (drop 4 v))
 
+-- a coordinate: its digits are followed by the fraction's, and the point is left out
 abbrev pub endThousandths : Bool → List ℕ → ℕ → Number
 endThousandths m u d =
     cond (fraction (drop d u)) (Good m (decimal (decimal 0 (take d u)) (take 3 (drop (d + 1) u)))) Bad
 
+-- 02 §1: 'right: an optional minus and digits between blanks'
 unfoldable pub whole : List ℕ → Number
 whole l = signed endWhole l
 
+-- 'coordinates end in a point and three digits', 'coordinates are whole thousandths'
 unfoldable pub thousandths : List ℕ → Number
 thousandths l = signed endThousandths l

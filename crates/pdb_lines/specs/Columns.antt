@@ -5,6 +5,7 @@ use mathlib.Core.Bool.{Bool, true, false, _&&_}
 use lib.ListN.{length, take, drop, getD}
 use lib.Dec.{eqb}
 
+-- the byte in column i
 abbrev pub column : ℕ → List ℕ → ℕ
 column i l = getD l (i - 1) 0
 

@@ -25,6 +25,7 @@ lead zero b ls = onto b ls
 lead (suc zero) b ls = [] ∷ ls
 lead (suc (suc e)) b ls = ls
 
+-- THE lines of a file: 02 §1, 'lines end at LF, a CR before it dropped'
 unfoldable pub lines : List ℕ → List (List ℕ)
 lines [] = []
 lines (b ∷ s) = lead (ending (b ∷ s)) b (lines s)

@@ -5,6 +5,7 @@ use mathlib.Core.Path.{_≡_}
 use Rattle.pdb_survey.specs.declared.Counts.{Counts}
 use Rattle.pdb_reader.specs.Structure.{chainsOf, residuesOf, segmentCount, atomCount}
 
+-- the counts c, and a number of segments, are those of the file s
 pub record Counted (s : List ℕ) (c : Counts) (segments : ℕ) : Type 0 where
   pub chains : c .chains ≡ chainsOf s
   pub residues : c .residues ≡ residuesOf s

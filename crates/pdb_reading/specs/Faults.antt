@@ -18,6 +18,7 @@ unfoldable pub firstAtom : ℕ → List AtomLine → Found
 firstAtom n [] = Nowhere
 firstAtom n (a ∷ ats) = cond (eqb (a .name) n) (Serial (a .serial)) (firstAtom n ats)
 
+-- the first of two, if it was found
 abbrev pub orElse : Found → Found → Found
 orElse Nowhere f = f
 orElse (Serial s) f = Serial s
@@ -35,6 +36,7 @@ foundIn n BadNumber = Nowhere
 foundIn n (AnAtom a) = cond (eqb (a .name) n) (Serial (a .serial)) Nowhere
 foundIn n (ASegment g) = Nowhere
 
+-- whether there is such an atom
 abbrev pub isFound : Found → Bool
 isFound Nowhere = false
 isFound (Serial s) = true
@@ -56,12 +58,14 @@ faultOf ats n BadNumber = LineWrong n
 faultOf ats n (AnAtom a) = Clean
 faultOf ats n (ASegment g) = cond (present ats g) Clean (NoResidue n)
 
+-- whether there is no fault
 abbrev pub isClean : Fault → Bool
 isClean Clean = true
 isClean (LineShort n) = false
 isClean (LineWrong n) = false
 isClean (NoResidue n) = false
 
+-- the first of two faults, if there is one
 abbrev pub firstOf : Fault → Fault → Fault
 firstOf Clean f = f
 firstOf (LineShort n) f = LineShort n

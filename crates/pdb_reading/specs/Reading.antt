@@ -21,6 +21,7 @@ stops seen Model = seen
 stops seen Endmdl = true
 stops seen Other = false
 
+-- whether a MODEL line was read, after this line
 abbrev pub saw : Bool → Kind → Bool
 saw seen Atom = seen
 saw seen Helix = seen
@@ -50,6 +51,7 @@ atomsIn Skipped = []
 atomsIn Short = []
 atomsIn BadNumber = []
 
+-- the atoms of some records, in their order
 unfoldable pub atoms : List Record → List AtomLine
 atoms [] = []
 atoms (r ∷ rs) = atomsIn r ++ atoms rs
@@ -62,6 +64,7 @@ segmentsIn Skipped = []
 segmentsIn Short = []
 segmentsIn BadNumber = []
 
+-- the segments of some records, in their order
 unfoldable pub segments : List Record → List SegmentLine
 segments [] = []
 segments (r ∷ rs) = segmentsIn r ++ segments rs

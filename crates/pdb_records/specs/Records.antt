@@ -17,6 +17,7 @@ use Rattle.pdb_records.specs.declared.Field.the-variants.{Wrong, Right}
 use Rattle.pdb_records.specs.declared.Record.{Record}
 use Rattle.pdb_records.specs.declared.Record.the-variants.{Skipped, Short, BadNumber, AnAtom, ASegment}
 
+-- which record a line is, by its first six bytes: 'Read ATOM, HELIX and SHEET .., until the first ENDMDL or a second MODEL'
 unfoldable pub kindOf : List ℕ → Kind
 kindOf l =
     cond (named ATOM 1 l) Atom
@@ -25,7 +26,7 @@ kindOf l =
     (cond (named MODEL 1 l) Model
     (cond (named ENDMDL 1 l) Endmdl Other))))
 
--- C-alpha 1, backbone oxygen 2, any other atom 0
+-- '" CA " in columns 13 to 16 is C-alpha; "CA  " is calcium and has role 0. " O  " is backbone oxygen': C-alpha 1, backbone oxygen 2, any other atom 0
 unfoldable pub roleOf : List ℕ → ℕ
 roleOf l = cond (named CA 13 l) 1 (cond (named O 13 l) 2 0)
 
@@ -33,15 +34,18 @@ roleOf l = cond (named CA 13 l) 1 (cond (named O 13 l) 2 0)
 abbrev pub nameOf : ℕ → Bool → ℕ → ℕ → ℕ
 nameOf chain minus n icode = (chain * 8589934592 + cond minus (4294967296 - n) (4294967296 + n)) * 256 + icode
 
+-- 'serials have no minus'
 abbrev pub serialOf : Number → Field
 serialOf Bad = Wrong
 serialOf (Good true n) = Wrong
 serialOf (Good false n) = Right n
 
+-- 'A residue is a distinct chain letter, sequence number and insertion code'
 abbrev pub residueOf : ℕ → Number → ℕ → Field
 residueOf chain Bad icode = Wrong
 residueOf chain (Good m n) icode = Right (nameOf chain m n icode)
 
+-- 'divided once by 1000 in f64'
 abbrev pub bitsOf : Number → Field
 bitsOf Bad = Wrong
 bitsOf (Good m n) = Right (bits m n)
@@ -91,5 +95,6 @@ ofKind Model l = Skipped
 ofKind Endmdl l = Skipped
 ofKind Other l = Skipped
 
+-- what a line says
 abbrev pub recordOf : List ℕ → Record
 recordOf l = ofKind (kindOf l) l
