@@ -10,7 +10,8 @@ use lib.ListN.{length, take, drop, getD, length-drop, length-take, drop-of-lengt
 use Rattle.pdb_lines.specs.Columns.{same, named}
 use lib.Seq.{getD-take, drop-cons, take-suc, getD-drop, drop-drop}
 use borrow.Author.Tests.{eq-eqb, ne-eqb}
-use Rattle.pdb_lines.specs.Lines.{lines, ending, atLf, onto, lead}
+use Rattle.pdb_lines.specs.Lines.{lines, atLf, onto}
+use Rattle.pdb_lines.specs.Post.{ending}
 
 -- bytes in front of the first line
 unfoldable pub ontos : List ℕ → List (List ℕ) → List (List ℕ)
@@ -37,20 +38,27 @@ unfolding lines
 lines-lf [] q = let z : _≡_ {A = Bool} false true = q in absurd (let y : _≡_ {A = ℕ} 0 1 = cc in omega arith)
 lines-lf (b ∷ s) q = simp q
 
+-- where a line ends, and where none does
 lines-end : (s : List ℕ) (e : ℕ) → ending s ≡ e → 0 < e → lines s ≡ [] ∷ lines (drop e s)
 unfolding lines
 lines-end [] e q h = absurd (omega arith)
-lines-end (b ∷ s) e q h = go (eqb b 10) (eqb b 13) (atLf s) refl refl q
+lines-end (b ∷ s) e q h = go (eqb b 10) (eqb b 13) (atLf s) refl q
   where
-    go : (x y z : Bool) → z ≡ atLf s → ending (b ∷ s) ≡ cond x 1 (cond (y && z) 2 0) → cond x 1 (cond (y && z) 2 0) ≡ e → lines (b ∷ s) ≡ [] ∷ lines (drop e (b ∷ s))
-    go true y z lf en q = rw (← q) (ap (λ (e : ℕ). lead e b (lines s)) en)
-    go false true true lf en q = rw (← q) (ap (λ (e : ℕ). lead e b (lines s)) en ∙ lines-lf s (sym lf))
-    go false true false lf en q = absurd (omega arith)
-    go false false z lf en q = absurd (omega arith)
+    go : (x y z : Bool) → atLf s ≡ z → cond x 1 (cond (y && z) 2 0) ≡ e
+        → cond x ([] ∷ lines s) (cond (y && z) (lines s) (onto b (lines s))) ≡ [] ∷ lines (drop e (b ∷ s))
+    go true y z lf q = rw (← q)
+    go false true true lf q = rw (← q) (lines-lf s lf)
+    go false true false lf q = absurd (omega arith)
+    go false false z lf q = absurd (omega arith)
 
 lines-on : (b : ℕ) (s : List ℕ) → ending (b ∷ s) ≡ 0 → lines (b ∷ s) ≡ onto b (lines s)
 unfolding lines
-lines-on b s q = ap (λ (e : ℕ). lead e b (lines s)) q
+lines-on b s q = go (eqb b 10) (eqb b 13 && atLf s) q
+  where
+    go : (x y : Bool) → _≡_ {A = ℕ} (cond x 1 (cond y 2 0)) 0 → cond x ([] ∷ lines s) (cond y (lines s) (onto b (lines s))) ≡ onto b (lines s)
+    go true y q = absurd (omega arith)
+    go false true q = absurd (omega arith)
+    go false false q = refl
 
 module _ (s : List ℕ) (at i : ℕ) (h : at ≤ i) where
   here : i < length s → take (i + 1 - at) (drop at s) ≡ take (i - at) (drop at s) ++ (getD s i 0 ∷ [])

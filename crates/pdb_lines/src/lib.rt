@@ -3,9 +3,8 @@ ghost use mathlib.Core.Path.{_≡_};
 ghost use mathlib.Core.Bool.{true, false};
 ghost use Prim.Native.Nat.{_+_, _-_, _<_, _≤_};
 ghost use lib.ListN.{length, drop};
-ghost use Rattle.pdb_lines.specs.Lines.{ending};
 ghost use Rattle.pdb_lines.specs.Columns.{named};
-ghost use Rattle.pdb_lines.specs.Post.{Cut};
+ghost use Rattle.pdb_lines.specs.Post.{ending, Cut};
 
 // Where a line ends, and where the next one begins.
 pub struct Line {
