@@ -33,7 +33,7 @@ unfolding ontos
 ontos-last b [] = refl
 ontos-last b (x ∷ bs) = ap (onto b) (ontos-last x bs)
 
-lines-lf : (s : List ℕ) → atLf s ≡ true → lines s ≡ [] ∷ lines (drop 1 s)
+pub lines-lf : (s : List ℕ) → atLf s ≡ true → lines s ≡ [] ∷ lines (drop 1 s)
 unfolding lines
 lines-lf [] q = let z : _≡_ {A = Bool} false true = q in absurd (let y : _≡_ {A = ℕ} 0 1 = cc in omega arith)
 lines-lf (b ∷ s) q = simp q
