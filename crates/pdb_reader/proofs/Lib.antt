@@ -5,3 +5,4 @@ pub mod Small
 pub mod Range
 pub mod Lines
 pub mod Demands
+pub mod Files

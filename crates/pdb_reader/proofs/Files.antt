@@ -1,0 +1,182 @@
+-- Which files are the same to the reader, and what the lent room decides: theorems over the definitions of specs/Call. Each says in its comment what it answers. Assumes nothing.
+use Prim.Native.Nat.{ℕ, _+_, _≤_, _<_}
+use mathlib.Core.Bool.{Bool, true, false, cond}
+use mathlib.Core.Path.{_≡_, refl, sym, ap, _∙_}
+use mathlib.Core.List.{List, [], _∷_, _++_}
+use native.Mathlib.Omega.{arith}
+use lib.Dec.{eqb, ltb}
+use lib.ListN.{length}
+use borrow.Author.Tests.{eqb-true, eqb-false, ltb-true, ltb-false, lt-ltb, le-ltb}
+use Rattle.buffers.specs.Put.{put}
+use Rattle.job.specs.declared.Refusal.the-variants.{PastLimits, NoJobRoom}
+use Rattle.pdb_lines.specs.Lines.{lines}
+use Rattle.pdb_lines.specs.Columns.{same, named}
+use Rattle.pdb_lines.proofs.Same.{crlf, hasCr, crlf-lines, final, lines-join, lf-lines}
+use Rattle.pdb_records.specs.Records.{kindOf, ofKind}
+use Rattle.pdb_records.specs.declared.Kind.{Kind}
+use Rattle.pdb_records.specs.declared.Kind.the-variants.{Atom, Helix, Sheet, Model, Endmdl, Other}
+use Rattle.pdb_records.specs.declared.Record.{Record}
+use Rattle.pdb_records.specs.declared.Record.the-variants.{Skipped}
+use Rattle.pdb_records.specs.declared.AtomLine.{AtomLine}
+use Rattle.pdb_records.specs.declared.SegmentLine.{SegmentLine}
+use Rattle.pdb_reading.specs.Reading.{stops, saw, reading, records, atomsIn, atoms, segmentsIn, segments, atomsOf, segmentsOf}
+use Rattle.pdb_reading.specs.Faults.{faultOf, firstOf, faults, faultIn}
+use Rattle.pdb_reading.specs.declared.Fault.{Fault}
+use Rattle.pdb_reading.specs.declared.Fault.the-variants.{Clean, LineShort, LineWrong, NoResidue}
+use Rattle.pdb_reader.specs.Structure.{toAtom, toSegment, sizeOf, pdbJob}
+use Rattle.pdb_reader.specs.Call.{pastLimits, byFault, readChecks, readAnswer, readBy, bufferAfter}
+use Rattle.pdb_reader.specs.declared.Read.{Read}
+use Rattle.pdb_reader.specs.declared.Read.the-variants.{Written, NoJob}
+use Rattle.pdb_reader.proofs.Demands.{accepted}
+
+-- ==== files that are the same to the reader
+
+-- two files that the reader cannot tell apart: one job, one answer in each room, and every lent buffer left alike
+pub record Alike (s t : List ℕ) : Type 0 where
+  pub job : pdbJob s ≡ pdbJob t
+  pub answer : (room : ℕ) → readAnswer s room ≡ readAnswer t room
+  pub buffer : (out : List ℕ) → bufferAfter s out ≡ bufferAfter t out
+
+module _ (s t : List ℕ) (a : atomsOf s ≡ atomsOf t) (g : segmentsOf s ≡ segmentsOf t) (f : faultIn s ≡ faultIn t) where
+  same-job : pdbJob s ≡ pdbJob t
+  unfolding pdbJob
+  same-job =
+      let as-atom : (x : AtomLine) → toAtom s x ≡ toAtom t x = λ x. rw a in
+      let as-segment : (x : SegmentLine) → toSegment s x ≡ toSegment t x = λ x. rw a in
+      let atom : toAtom s ≡ toAtom t = λ i x. as-atom x i in
+      let segment : toSegment s ≡ toSegment t = λ i x. as-segment x i in
+      rw (a, g, atom, segment)
+
+  same-answer : (room : ℕ) → readAnswer s room ≡ readAnswer t room
+  unfolding readAnswer readChecks pastLimits
+  same-answer room = rw (f, a, g)
+
+  same-buffer : (out : List ℕ) → bufferAfter s out ≡ bufferAfter t out
+  unfolding bufferAfter
+  same-buffer out = ap (λ (r : Read). readBy r s out) (same-answer (length out)) ∙ each (readAnswer t (length out))
+    where
+      each : (r : Read) → readBy r s out ≡ readBy r t out
+      each (Written n) = ap (put out 0) same-job
+      each (NoJob r) = refl
+
+  -- the atoms, the segments and the first fault are all that the reader makes of a file
+  pub same-parts : Alike s t
+  same-parts = record { job = same-job; answer = same-answer; buffer = same-buffer }
+
+-- files with the same records are the same to the reader
+pub same-records : (s t : List ℕ) → records s ≡ records t → Alike s t
+same-records s t e = same-parts s t (ap atoms e) (ap segments e) (ap (λ (rs : List Record). faults (atoms rs) 1 rs) e)
+
+-- a file with LF line ends, and the same file with CR LF
+pub line-ends : (s : List ℕ) → hasCr s ≡ false → Alike (crlf s) s
+line-ends s h = same-records (crlf s) s (ap (reading false) (crlf-lines s h))
+
+-- what a list of records gives does not see an empty line after the last, if it does not see a record passed over at the end
+after-all : {A : Type 0} (f : ℕ → List Record → A) → ((n : ℕ) → f n (Skipped ∷ []) ≡ f n [])
+    → ((n : ℕ) (r : Record) (rs rs′ : List Record) → f (n + 1) rs ≡ f (n + 1) rs′ → f n (r ∷ rs) ≡ f n (r ∷ rs′))
+    → (n : ℕ) (seen : Bool) (ls : List (List ℕ)) → f n (reading seen (ls ++ ([] ∷ []))) ≡ f n (reading seen ls)
+unfolding reading kindOf ofKind named same
+after-all f last on n seen [] = last n
+after-all f last on n seen (l ∷ ls) =
+    go (stops seen (kindOf l)) (on n (ofKind (kindOf l) l) (reading (saw seen (kindOf l)) (ls ++ ([] ∷ []))) (reading (saw seen (kindOf l)) ls) (after-all f last on (n + 1) (saw seen (kindOf l)) ls))
+  where
+    go : {rs rs′ : List Record} (b : Bool) → f n rs ≡ f n rs′ → f n (cond b [] rs) ≡ f n (cond b [] rs′)
+    go true e = refl
+    go false e = e
+
+-- an LF added at the end of a file whose last byte is no CR
+pub last-lf : (s : List ℕ) → (final 10 s ≡ 13 → ⊥) → Alike (s ++ (10 ∷ [])) s
+unfolding lines atoms segments faults
+last-lf s h = go (eqb (final 10 s) 10) refl
+  where
+    go : (b : Bool) → eqb (final 10 s) 10 ≡ b → Alike (s ++ (10 ∷ [])) s
+    go false e = same-records (s ++ (10 ∷ [])) s (ap (reading false) (lf-lines s (eqb-false (final 10 s) 10 e) h))
+    go true e =
+        let j = lines-join s (10 ∷ []) (eqb-true (final 10 s) 10 e) in
+        let a : atomsOf (s ++ (10 ∷ [])) ≡ atomsOf s = ap (λ (ls : List (List ℕ)). atoms (reading false ls)) j ∙ after-all (λ (n : ℕ). atoms) (λ n. refl) (λ n r rs rs′ e. ap (λ (t : List AtomLine). atomsIn r ++ t) e) 0 false (lines s) in
+        let g : segmentsOf (s ++ (10 ∷ [])) ≡ segmentsOf s = ap (λ (ls : List (List ℕ)). segments (reading false ls)) j ∙ after-all (λ (n : ℕ). segments) (λ n. refl) (λ n r rs rs′ e. ap (λ (t : List SegmentLine). segmentsIn r ++ t) e) 0 false (lines s) in
+        let f : faultIn (s ++ (10 ∷ [])) ≡ faultIn s = ap (λ (ats : List AtomLine). faults ats 1 (records (s ++ (10 ∷ [])))) a
+        ∙ ap (λ (ls : List (List ℕ)). faults (atomsOf s) 1 (reading false ls)) j
+        ∙ after-all (faults (atomsOf s)) (λ n. refl) (λ n r rs rs′ e. ap (firstOf (faultOf (atomsOf s) n r)) e) 1 false (lines s) in
+        same-parts (s ++ (10 ∷ [])) s a g f
+
+-- ==== what is not read
+
+-- whether a MODEL line was read, after these lines
+unfoldable pub sawIn : Bool → List (List ℕ) → Bool
+sawIn seen [] = seen
+sawIn seen (l ∷ ls) = sawIn (saw seen (kindOf l)) ls
+
+stopped : (seen : Bool) (ls : List (List ℕ)) (e : List ℕ) (ms : List (List ℕ)) → stops (sawIn seen ls) (kindOf e) ≡ true → reading seen (ls ++ (e ∷ ms)) ≡ reading seen ls
+unfolding reading sawIn
+stopped seen [] e ms h = rw h
+stopped seen (l ∷ ls) e ms h =
+    ap (λ (rs : List Record). cond (stops seen (kindOf l)) [] (ofKind (kindOf l) l ∷ rs)) (stopped (saw seen (kindOf l)) ls e ms h)
+
+-- what follows a line that ends the reading does not matter
+pub past-stop : (s t : List ℕ) (ls : List (List ℕ)) (e : List ℕ) (ms ns : List (List ℕ)) → stops (sawIn false ls) (kindOf e) ≡ true
+    → lines s ≡ ls ++ (e ∷ ms) → lines t ≡ ls ++ (e ∷ ns) → Alike s t
+past-stop s t ls e ms ns h p q =
+    same-records s t (ap (reading false) p ∙ stopped false ls e ms h ∙ sym (ap (reading false) q ∙ stopped false ls e ns h))
+
+-- what follows a line ENDMDL does not matter
+pub past-endmdl : (s t : List ℕ) (ls : List (List ℕ)) (e : List ℕ) (ms ns : List (List ℕ)) → kindOf e ≡ Endmdl
+    → lines s ≡ ls ++ (e ∷ ms) → lines t ≡ ls ++ (e ∷ ns) → Alike s t
+past-endmdl s t ls e ms ns k = past-stop s t ls e ms ns (ap (stops (sawIn false ls)) k)
+
+saw-stays : (ls : List (List ℕ)) → sawIn true ls ≡ true
+unfolding sawIn
+saw-stays [] = refl
+saw-stays (l ∷ ls) = go (kindOf l) (saw-stays ls)
+  where
+    go : (k : Kind) → sawIn true ls ≡ true → sawIn (saw true k) ls ≡ true
+    go Atom h = h
+    go Helix h = h
+    go Sheet h = h
+    go Model h = h
+    go Endmdl h = h
+    go Other h = h
+
+saw-model : (seen : Bool) (ls : List (List ℕ)) (m : List ℕ) (ks : List (List ℕ)) → kindOf m ≡ Model → sawIn seen (ls ++ (m ∷ ks)) ≡ true
+unfolding sawIn
+saw-model seen [] m ks k = ap (λ (x : Kind). sawIn (saw seen x) ks) k ∙ saw-stays ks
+saw-model seen (l ∷ ls) m ks k = saw-model (saw seen (kindOf l)) ls m ks k
+
+-- what follows a second line MODEL does not matter
+pub past-model : (s t : List ℕ) (ls : List (List ℕ)) (m : List ℕ) (ks : List (List ℕ)) (e : List ℕ) (ms ns : List (List ℕ)) → kindOf m ≡ Model → kindOf e ≡ Model
+    → lines s ≡ (ls ++ (m ∷ ks)) ++ (e ∷ ms) → lines t ≡ (ls ++ (m ∷ ks)) ++ (e ∷ ns) → Alike s t
+past-model s t ls m ks e ms ns j k = past-stop s t (ls ++ (m ∷ ks)) e ms ns (ap (stops (sawIn false (ls ++ (m ∷ ks)))) k ∙ saw-model false ls m ks j)
+
+-- ==== room
+
+-- refusal 16 is given only where the room is short, and it carries the size needed
+pub only-for-room : (s : List ℕ) (room n : ℕ) → readAnswer s room ≡ NoJob (NoJobRoom n) → (n ≡ sizeOf s) × (room < n)
+unfolding readAnswer readChecks
+only-for-room s room n e = go (faultIn s) (pastLimits s) (ltb room (sizeOf s)) refl e
+  where
+    go : (f : Fault) (p b : Bool) → ltb room (sizeOf s) ≡ b
+        → byFault f (cond p (NoJob PastLimits) (cond b (NoJob (NoJobRoom (sizeOf s))) (Written (sizeOf s)))) ≡ NoJob (NoJobRoom n) → (n ≡ sizeOf s) × (room < n)
+    go Clean false true q e = let z : n ≡ sizeOf s = cc in (z, omega (arith, z, ltb-true room (sizeOf s) q))
+    go Clean false false q e = absurd (let z : _≡_ {A = ℕ} 0 1 = cc in omega arith)
+    go Clean true b q e = absurd (let z : _≡_ {A = ℕ} 0 1 = cc in omega arith)
+    go (LineShort i) p b q e = absurd (let z : _≡_ {A = ℕ} 0 1 = cc in omega arith)
+    go (LineWrong i) p b q e = absurd (let z : _≡_ {A = ℕ} 0 1 = cc in omega arith)
+    go (NoResidue i) p b q e = absurd (let z : _≡_ {A = ℕ} 0 1 = cc in omega arith)
+
+by-room : (s : List ℕ) (room : ℕ) (b : Bool) → faultIn s ≡ Clean → pastLimits s ≡ false → ltb room (sizeOf s) ≡ b
+    → readAnswer s room ≡ cond b (NoJob (NoJobRoom (sizeOf s))) (Written (sizeOf s))
+unfolding readAnswer readChecks
+by-room s room b f p q = rw (f, p, q)
+
+-- a file with no fault and within the limits is refused exactly where the room is short, with the size needed; else its job is written
+pub room-refused : (s : List ℕ) (room : ℕ) → faultIn s ≡ Clean → pastLimits s ≡ false
+    → (room < sizeOf s → readAnswer s room ≡ NoJob (NoJobRoom (sizeOf s))) × (readAnswer s room ≡ NoJob (NoJobRoom (sizeOf s)) → room < sizeOf s)
+    × (sizeOf s ≤ room → readAnswer s room ≡ Written (sizeOf s))
+room-refused s room f p =
+    (λ h. by-room s room true f p (lt-ltb room (sizeOf s) h), λ e. only-for-room s room (sizeOf s) e .1, λ h. by-room s room false f p (le-ltb room (sizeOf s) h))
+
+-- a job that was written in some room is written in any room that is no less
+pub more-room : (s : List ℕ) (room room′ n : ℕ) → readAnswer s room ≡ Written n → room ≤ room′ → readAnswer s room′ ≡ Written n
+more-room s room room′ n e h =
+    let a = accepted s room n e in
+    room-refused s room′ (a .clean) (a .limits) .2 (omega (arith, a .fits)) ∙ ap Written (sym (a .size))
