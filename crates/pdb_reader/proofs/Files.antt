@@ -71,34 +71,35 @@ same-records s t e = same-parts s t (ap atoms e) (ap segments e) (ap (λ (rs : L
 pub line-ends : (s : List ℕ) → hasCr s ≡ false → Alike (crlf s) s
 line-ends s h = same-records (crlf s) s (ap (reading false) (crlf-lines s h))
 
--- what a list of records gives does not see an empty line after the last, if it does not see a record passed over at the end
-after-all : {A : Type 0} (f : ℕ → List Record → A) → ((n : ℕ) → f n (Skipped ∷ []) ≡ f n [])
+-- what is made of records, line by line, is made without an empty line after the last
+passed-over : {A : Type 0} (f : ℕ → List Record → A) → ((n : ℕ) → f n (Skipped ∷ []) ≡ f n [])
     → ((n : ℕ) (r : Record) (rs rs′ : List Record) → f (n + 1) rs ≡ f (n + 1) rs′ → f n (r ∷ rs) ≡ f n (r ∷ rs′))
     → (n : ℕ) (seen : Bool) (ls : List (List ℕ)) → f n (reading seen (ls ++ ([] ∷ []))) ≡ f n (reading seen ls)
 unfolding reading kindOf ofKind named same
-after-all f last on n seen [] = last n
-after-all f last on n seen (l ∷ ls) =
-    go (stops seen (kindOf l)) (on n (ofKind (kindOf l) l) (reading (saw seen (kindOf l)) (ls ++ ([] ∷ []))) (reading (saw seen (kindOf l)) ls) (after-all f last on (n + 1) (saw seen (kindOf l)) ls))
+passed-over f last on n seen [] = last n
+passed-over f last on n seen (l ∷ ls) = go (stops seen (kindOf l)) (on n (ofKind (kindOf l) l) _ _ (passed-over f last on (n + 1) (saw seen (kindOf l)) ls))
   where
     go : {rs rs′ : List Record} (b : Bool) → f n rs ≡ f n rs′ → f n (cond b [] rs) ≡ f n (cond b [] rs′)
     go true e = refl
     go false e = e
 
+-- an empty line after the last is passed over
+pub empty-line : (s t : List ℕ) → lines t ≡ lines s ++ ([] ∷ []) → Alike t s
+unfolding atoms segments faults
+empty-line s t j =
+    let a : atomsOf t ≡ atomsOf s = rw j (passed-over (λ (n : ℕ). atoms) (λ n. refl) (λ n r rs rs′ e. ap (λ (l : List AtomLine). atomsIn r ++ l) e) 0 false (lines s)) in
+    let g : segmentsOf t ≡ segmentsOf s = rw j (passed-over (λ (n : ℕ). segments) (λ n. refl) (λ n r rs rs′ e. ap (λ (l : List SegmentLine). segmentsIn r ++ l) e) 0 false (lines s)) in
+    let f : faultIn t ≡ faultIn s = rw (a, j) (passed-over (faults (atomsOf s)) (λ n. refl) (λ n r rs rs′ e. ap (firstOf (faultOf (atomsOf s) n r)) e) 1 false (lines s)) in
+    same-parts t s a g f
+
 -- an LF added at the end of a file whose last byte is no CR
 pub last-lf : (s : List ℕ) → (final 10 s ≡ 13 → ⊥) → Alike (s ++ (10 ∷ [])) s
-unfolding lines atoms segments faults
+unfolding lines
 last-lf s h = go (eqb (final 10 s) 10) refl
   where
     go : (b : Bool) → eqb (final 10 s) 10 ≡ b → Alike (s ++ (10 ∷ [])) s
+    go true e = empty-line s (s ++ (10 ∷ [])) (lines-join s (10 ∷ []) (eqb-true (final 10 s) 10 e))
     go false e = same-records (s ++ (10 ∷ [])) s (ap (reading false) (lf-lines s (eqb-false (final 10 s) 10 e) h))
-    go true e =
-        let j = lines-join s (10 ∷ []) (eqb-true (final 10 s) 10 e) in
-        let a : atomsOf (s ++ (10 ∷ [])) ≡ atomsOf s = ap (λ (ls : List (List ℕ)). atoms (reading false ls)) j ∙ after-all (λ (n : ℕ). atoms) (λ n. refl) (λ n r rs rs′ e. ap (λ (t : List AtomLine). atomsIn r ++ t) e) 0 false (lines s) in
-        let g : segmentsOf (s ++ (10 ∷ [])) ≡ segmentsOf s = ap (λ (ls : List (List ℕ)). segments (reading false ls)) j ∙ after-all (λ (n : ℕ). segments) (λ n. refl) (λ n r rs rs′ e. ap (λ (t : List SegmentLine). segmentsIn r ++ t) e) 0 false (lines s) in
-        let f : faultIn (s ++ (10 ∷ [])) ≡ faultIn s = ap (λ (ats : List AtomLine). faults ats 1 (records (s ++ (10 ∷ [])))) a
-        ∙ ap (λ (ls : List (List ℕ)). faults (atomsOf s) 1 (reading false ls)) j
-        ∙ after-all (faults (atomsOf s)) (λ n. refl) (λ n r rs rs′ e. ap (firstOf (faultOf (atomsOf s) n r)) e) 1 false (lines s) in
-        same-parts (s ++ (10 ∷ [])) s a g f
 
 -- ==== what is not read
 
@@ -127,15 +128,15 @@ past-endmdl s t ls e ms ns k = past-stop s t ls e ms ns (ap (stops (sawIn false 
 saw-stays : (ls : List (List ℕ)) → sawIn true ls ≡ true
 unfolding sawIn
 saw-stays [] = refl
-saw-stays (l ∷ ls) = go (kindOf l) (saw-stays ls)
+saw-stays (l ∷ ls) = rw (once (kindOf l)) (saw-stays ls)
   where
-    go : (k : Kind) → sawIn true ls ≡ true → sawIn (saw true k) ls ≡ true
-    go Atom h = h
-    go Helix h = h
-    go Sheet h = h
-    go Model h = h
-    go Endmdl h = h
-    go Other h = h
+    once : (k : Kind) → saw true k ≡ true
+    once Atom = refl
+    once Helix = refl
+    once Sheet = refl
+    once Model = refl
+    once Endmdl = refl
+    once Other = refl
 
 saw-model : (seen : Bool) (ls : List (List ℕ)) (m : List ℕ) (ks : List (List ℕ)) → kindOf m ≡ Model → sawIn seen (ls ++ (m ∷ ks)) ≡ true
 unfolding sawIn
