@@ -5,21 +5,28 @@ use mathlib.Core.Path.{_≡_, refl, sym, ap, _∙_}
 use mathlib.Core.List.{List, [], _∷_, _++_}
 use native.Mathlib.Omega.{arith}
 use lib.Dec.{eqb, ltb}
+use lib.Ieee.{round, toBits}
 use lib.ListN.{length}
 use borrow.Author.Tests.{eqb-true, eqb-false, ltb-true, ltb-false, lt-ltb, le-ltb}
 use Rattle.buffers.specs.Put.{put}
 use Rattle.job.specs.declared.Refusal.the-variants.{PastLimits, NoJobRoom}
+use Rattle.appearance.specs.Order.{distinct, member, place}
+use Rattle.coordinates.specs.Coordinate.{coordinate, bits}
+use Rattle.job_writer.specs.Bytes.{u16, u32, u64}
+use Rattle.job_writer.specs.Job.{flat, point, atomBytes, headBytes, jobBytes}
+use Rattle.pdb_fields.specs.Numbers.{run, decimal, whole, thousandths}
 use Rattle.pdb_lines.specs.Lines.{lines}
 use Rattle.pdb_lines.specs.Columns.{same, named}
 use Rattle.pdb_lines.proofs.Same.{crlf, hasCr, crlf-lines, final, lines-join, lf-lines}
-use Rattle.pdb_records.specs.Records.{kindOf, ofKind}
+use Rattle.pdb_records.specs.Names.{ATOM, CA}
+use Rattle.pdb_records.specs.Records.{kindOf, roleOf, atomOf, ofKind}
 use Rattle.pdb_records.specs.declared.Kind.{Kind}
 use Rattle.pdb_records.specs.declared.Kind.the-variants.{Atom, Helix, Sheet, Model, Endmdl, Other}
 use Rattle.pdb_records.specs.declared.Record.{Record}
 use Rattle.pdb_records.specs.declared.Record.the-variants.{Skipped}
 use Rattle.pdb_records.specs.declared.AtomLine.{AtomLine}
 use Rattle.pdb_records.specs.declared.SegmentLine.{SegmentLine}
-use Rattle.pdb_reading.specs.Reading.{stops, saw, reading, records, atomsIn, atoms, segmentsIn, segments, atomsOf, segmentsOf}
+use Rattle.pdb_reading.specs.Reading.{stops, saw, reading, records, atomsIn, atoms, segmentsIn, segments, names, letters, atomsOf, segmentsOf}
 use Rattle.pdb_reading.specs.Faults.{faultOf, firstOf, faults, faultIn}
 use Rattle.pdb_reading.specs.declared.Fault.{Fault}
 use Rattle.pdb_reading.specs.declared.Fault.the-variants.{Clean, LineShort, LineWrong, NoResidue}
@@ -181,3 +188,32 @@ pub more-room : (s : List ℕ) (room room′ n : ℕ) → readAnswer s room ≡ 
 more-room s room room′ n e h =
     let a = accepted s room n e in
     room-refused s room′ (a .clean) (a .limits) .2 (omega (arith, a .fits)) ∙ ap Written (sym (a .size))
+
+-- ==== a worked example
+
+-- the file of one line, `ATOM      1 .... GLY A   1       1.500  -0.100  -0.000`, with an atom's name for the points
+abbrev pub oneAtom : List ℕ → List ℕ
+oneAtom name =
+    ATOM
+    ++ (32 ∷ 32 ∷ 32 ∷ 32 ∷ 49 ∷ 32 ∷ [])
+    ++ name
+    ++ (32 ∷ 71 ∷ 76 ∷ 89 ∷ 32 ∷ 65 ∷ 32 ∷ 32 ∷ 32 ∷ 49 ∷ 32 ∷ 32 ∷ 32 ∷ 32 ∷ [])
+    ++ (32 ∷ 32 ∷ 32 ∷ 49 ∷ 46 ∷ 53 ∷ 48 ∷ 48 ∷ [])
+    ++ (32 ∷ 32 ∷ 45 ∷ 48 ∷ 46 ∷ 49 ∷ 48 ∷ 48 ∷ [])
+    ++ (32 ∷ 32 ∷ 45 ∷ 48 ∷ 46 ∷ 48 ∷ 48 ∷ 48 ∷ [])
+
+-- its job of 47 bytes, with the atom's role: the head, the chain's visibility, the atom; -0.000 is +0
+abbrev pub oneJob : ℕ → List ℕ
+oneJob role =
+    (0 ∷ 0 ∷ 0 ∷ 43 ∷ 1 ∷ 0 ∷ 1 ∷ 0 ∷ 1 ∷ 0 ∷ 0 ∷ 0 ∷ 1 ∷ [])
+    ++ (1 ∷ [])
+    ++ (0 ∷ 0 ∷ 0 ∷ 1 ∷ role ∷ 0 ∷ 0 ∷ 0 ∷ 0 ∷ [])
+    ++ (63 ∷ 248 ∷ 0 ∷ 0 ∷ 0 ∷ 0 ∷ 0 ∷ 0 ∷ [])
+    ++ (191 ∷ 185 ∷ 153 ∷ 153 ∷ 153 ∷ 153 ∷ 153 ∷ 154 ∷ [])
+    ++ (0 ∷ 0 ∷ 0 ∷ 0 ∷ 0 ∷ 0 ∷ 0 ∷ 0 ∷ [])
+
+-- " CA " gives a C-alpha and "CA  " an atom of role 0, in a job of 47 bytes: 47 places suffice and 46 do not
+pub one-atom : (pdbJob (oneAtom CA) ≡ oneJob 1) × (pdbJob (oneAtom (67 ∷ 65 ∷ 32 ∷ 32 ∷ [])) ≡ oneJob 0)
+    × (readAnswer (oneAtom CA) 47 ≡ Written 47) × (readAnswer (oneAtom CA) 46 ≡ NoJob (NoJobRoom 47))
+unfolding readAnswer readChecks pastLimits pdbJob jobBytes headBytes atomBytes point u64 u32 u16 flat lines reading kindOf ofKind atomOf roleOf named same whole thousandths run decimal bits coordinate round toBits atoms segments names letters distinct member place faults
+one-atom = (refl, refl, refl, refl)
