@@ -130,16 +130,16 @@ unfolding ontos
 start s at = let e : at - at ≡ 0 = omega arith in rw e
 
 -- ---- names
+and-no : (b : Bool) → (b && false) ≡ false
+and-no true = refl
+and-no false = refl
+
 same-length : (xs ys : List ℕ) → (length xs ≡ length ys → ⊥) → same xs ys ≡ false
 unfolding same
 same-length [] [] h = absurd (h refl)
 same-length [] (y ∷ ys) h = refl
 same-length (x ∷ xs) [] h = refl
 same-length (x ∷ xs) (y ∷ ys) h = rw (same-length xs ys (λ e. h (ap suc e))) (and-no (eqb x y))
-  where
-    and-no : (b : Bool) → (b && false) ≡ false
-    and-no true = refl
-    and-no false = refl
 
 -- the first i bytes agree
 same-all : (xs ys : List ℕ) → length xs ≡ length ys → ((k : ℕ) → k < length ys → getD xs k 0 ≡ getD ys k 0) → same xs ys ≡ true
@@ -156,10 +156,6 @@ same-one xs [] k l h e = absurd (omega arith)
 same-one [] (y ∷ ys) k l h e = refl
 same-one (x ∷ xs) (y ∷ ys) zero l h e = rw (ne-eqb x y h)
 same-one (x ∷ xs) (y ∷ ys) (suc k) l h e = rw (same-one xs ys k (omega arith) h (omega arith)) (and-no (eqb x y))
-  where
-    and-no : (b : Bool) → (b && false) ≡ false
-    and-no true = refl
-    and-no false = refl
 
 module _ (l name : List ℕ) (from : ℕ) where
   at-column : from + 1 - 1 ≡ from
