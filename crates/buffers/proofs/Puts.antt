@@ -6,7 +6,7 @@ use native.Mathlib.Nat.{add-zero, add-suc, suc-add, zero-add, not-suc-le-zero}
 use native.Mathlib.Numerals.{add-one}
 use native.Mathlib.Omega.{arith}
 use lib.ListN.{length, take, drop, set, getD, length-append, length-set}
-use lib.Seq.{sets, sets-eq, getD-set-other, getD-set-same, length-take-le, take-append-seam, drop-at}
+use lib.Seq.{sets, sets-eq, getD-set-other, getD-set-same, length-take-le, set-comm, take-append-seam, drop-at}
 use Rattle.buffers.specs.Put.{put, upto}
 
 module _ {ℓ} {A : Type ℓ} where
@@ -74,6 +74,19 @@ module _ {ℓ} {A : Type ℓ} where
   pub next : (l b : List A) (i j : ℕ) (xs ys : List A) {b′ : List A}
       → b′ ≡ put b j ys → b ≡ put l i xs → j ≡ i + length xs → b′ ≡ put l i (xs ++ ys)
   next l b i j xs ys e′ e h = e′ ∙ ap (λ (m : List A). put m j ys) e ∙ put-at l i j xs ys h
+
+  -- two writes that do not meet may be made in either order
+  put-set : (l : List A) (i j : ℕ) (x : A) (ys : List A) → i < j → put (set l i x) j ys ≡ set (put l j ys) i x
+  unfolding put
+  put-set l i j x [] h = refl
+  put-set l i j x (y ∷ ys) h =
+      ap (λ (m : List A). put m (suc j) ys) (set-comm l i j x y (λ e. absurd (omega arith))) ∙ put-set (set l j y) i (suc j) x ys (omega arith)
+
+  pub put-apart : (l : List A) (i j : ℕ) (xs ys : List A) → i + length xs ≤ j → put (put l i xs) j ys ≡ put (put l j ys) i xs
+  unfolding put
+  put-apart l i j [] ys h = refl
+  put-apart l i j (x ∷ xs) ys h =
+      put-apart (set l i x) (suc i) j xs ys (omega arith) ∙ ap (λ (m : List A). put m (suc i) xs) (put-set l i j x ys (omega arith))
 
   -- what stands past the written part, and before it, is as it was
   pub getD-put-past : (l : List A) (i : ℕ) (xs : List A) (k : ℕ) (d : A) → i + length xs ≤ k → getD (put l i xs) k d ≡ getD l k d

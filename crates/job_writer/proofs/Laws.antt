@@ -1,13 +1,13 @@
 -- Writing records one after another, and the whole job. Assumes nothing.
 use Prim.Native.Nat.{ℕ, zero, suc, _+_, _*_}
 use mathlib.Core.Path.{_≡_, refl, sym, ap, _∙_}
-use mathlib.Core.List.{List, [], _∷_, _++_, map}
+use mathlib.Core.List.{List, [], _∷_, _++_, append-assoc}
 use native.Mathlib.Nat.{mul-suc, add-comm}
 use native.Mathlib.Numerals.{add-one}
 use native.Mathlib.Omega.{arith}
 use lib.ListN.{length, set, replicate, length-append, length-replicate}
 use Rattle.buffers.specs.Put.{put, upto}
-use Rattle.buffers.proofs.Puts.{next, put-put}
+use Rattle.buffers.proofs.Puts.{next}
 use Rattle.job_writer.specs.Bytes.{u16, u32, u64}
 use Rattle.job_writer.specs.Job.{flat, segmentBytes, point, atomBytes, headBytes, jobBytes}
 use Rattle.job_writer.specs.declared.JobAtom.{JobAtom}
@@ -66,20 +66,10 @@ length-flat f w h (x ∷ l) =
     length-append (f x) (flat f l) ∙ ap (λ (n : ℕ). n + length (flat f l)) (h x) ∙ ap (λ (n : ℕ). w + n) (length-flat f w h l)
     ∙ sym (mul-suc w (length l) ∙ add-comm (w * length l) w)
 
--- ---- writing what is left: the whole is what is there with the rest put behind it
-module _ {A B : Type 0} (f : B → List ℕ) (h : A → B) (w : ℕ) (wide : (b : B) → length (f b) ≡ w) (whole out : List ℕ) (o : ℕ) (g : List A)
-    (inv : whole ≡ put out o (flat f (map h g))) where
-  pub left-over : g ≡ [] → out ≡ whole
-  unfolding put flat
-  left-over e = sym (inv ∙ rw e)
-
-  pub left-on : (x : A) (r : List A) (b : B) (out′ : List ℕ) (o′ : ℕ) → g ≡ x ∷ r → b ≡ h x → out′ ≡ put out o (f b) → o′ ≡ o + w → whole ≡ put out′ o′ (flat f (map h r))
-  unfolding flat
-  left-on x r b out′ o′ e eb p q =
-      inv ∙ ap (λ (l : List A). put out o (flat f (map h l))) e
-      ∙ sym (put-put out o (f (h x)) (flat f (map h r)))
-      ∙ ap (λ (b : List ℕ). put b (o + length (f (h x))) (flat f (map h r))) (sym (p ∙ ap (λ (c : B). put out o (f c)) eb))
-      ∙ ap (λ (n : ℕ). put out′ n (flat f (map h r))) (ap (λ (n : ℕ). o + n) (wide (h x)) ∙ sym q)
+pub flat-append : {A : Type 0} (f : A → List ℕ) (l m : List A) → flat f (l ++ m) ≡ flat f l ++ flat f m
+unfolding flat
+flat-append f [] m = refl
+flat-append f (x ∷ l) m = ap (λ (t : List ℕ). f x ++ t) (flat-append f l m) ∙ sym (append-assoc (f x) (flat f l) (flat f m))
 
 -- ---- the four parts of a job, written one after another
 pub job-made : {A : Type 0} (v w : ℕ) (bytes : A → List ℕ) (c r g a : ℕ) (gs : List JobSegment) (ats : List A) → g ≡ length gs → a ≡ length ats

@@ -11,24 +11,29 @@ use Rattle.job.specs.Search.{last}
 use Rattle.job.specs.declared.Refusal.the-variants.{PastLimits, NoJobRoom}
 use Rattle.buffers.specs.Put.{put}
 use Rattle.appearance.specs.Order.{member, distinct, numbered}
-use Rattle.job_writer.specs.Job.{flat, segmentBytes, atomBytes, headBytes}
+use Rattle.job_writer.specs.Job.{atomBytes, headBytes}
 use Rattle.job_writer.proofs.Laws.{job-made}
 use Rattle.pdb_records.specs.declared.AtomLine.{AtomLine}
 use Rattle.pdb_records.specs.declared.Record.{Record}
 use Rattle.pdb_records.specs.declared.Record.the-variants.{Skipped, Short, BadNumber, AnAtom, ASegment}
-use Rattle.pdb_reading.specs.Reading.{records, segments, atomsOf, segmentsOf, names, letters}
+use Rattle.pdb_reading.specs.Reading.{records, segments, atomsOf, segmentsOf, letters}
 use Rattle.pdb_reading.specs.Faults.{faultIn, faults, isClean, firstOf, present}
 use Rattle.pdb_reading.specs.declared.Fault.{Fault}
 use Rattle.pdb_reading.specs.declared.Fault.the-variants.{Clean, LineShort, LineWrong, NoResidue}
 use Rattle.pdb_survey.specs.Lines.{ownFaults, ahead}
 use Rattle.pdb_survey.specs.Tables.{Marks, Noted, Surveyed}
+use Rattle.pdb_survey.proofs.Walk.{noted-whole}
 use Rattle.pdb_survey.specs.declared.Counts.{Counts}
 use Rattle.pdb_survey.specs.declared.Overview.{Overview}
 use Rattle.pdb_reader.specs.Counted.{Counted}
+use Rattle.pdb_reader.specs.Parts.{segmentsFrom, atomsFrom}
 use Rattle.pdb_reader.specs.Structure.{chainsOf, residuesOf, segmentCount, atomCount, sizeOf, toSegment, toAtom, pdbJob}
 use Rattle.pdb_reader.specs.Call.{pastLimits, byFault, readChecks, readAnswer, readBy, bufferAfter}
 use Rattle.pdb_reader.specs.declared.Read.{Read}
 use Rattle.pdb_reader.specs.declared.Read.the-variants.{Written, NoJob}
+
+pub clash : _≡_ {A = Bool} true false → ⊥
+clash e = let z : _≡_ {A = ℕ} 0 1 = cc in omega arith
 
 -- ---- 15: the limits
 or-no : (a b : Bool) → (a || b) ≡ false → (a ≡ false) × (b ≡ false)
@@ -69,39 +74,54 @@ module _ (s : List ℕ) (c : Counts) (g : ℕ) (C : Counted s c g) where
   within : (n : ℕ) {a b : ℕ} → a ≡ b → a ≤ n → ltb n b ≡ false
   within n {a} {b} e h = le-ltb n b (subst (λ (m : ℕ). m ≤ n) e h)
 
-  pub past-chains : 255 < c .chains → true ≡ pastLimits s
-  unfolding pastLimits
-  past-chains h = rw (past 255 (C .chains) h)
+  pub past-residues : c .more ≡ true → true ≡ pastLimits s
+  past-residues e = sym (residues-past s (C .past e))
 
-  module _ (h₁ : c .chains ≤ 255) where
-    pub past-residues : 16384 < c .residues → true ≡ pastLimits s
+  -- a file within the limits has no more residues than the tables
+  pub not-more : pastLimits s ≡ false → c .more ≡ false
+  not-more e = go (c .more) refl
+    where
+      go : (b : Bool) → c .more ≡ b → c .more ≡ false
+      go true q = absurd (clash (past-residues q ∙ e))
+      go false q = q
+
+  module _ (m : c .more ≡ false) where
+    few : ltb 16384 (residuesOf s) ≡ false
+    few = le-ltb 16384 (residuesOf s) (C .few m)
+
+    pub past-chains : 255 < c .chains → true ≡ pastLimits s
     unfolding pastLimits
-    past-residues h = rw (within 255 (C .chains) h₁, past 16384 (C .residues) h)
+    past-chains h = rw (past 255 (C .chains m) h)
 
-    module _ (h₂ : c .residues ≤ 16384) where
+    module _ (h₁ : c .chains ≤ 255) where
       pub past-segments : 65535 < g → true ≡ pastLimits s
       unfolding pastLimits
-      past-segments h = rw (within 255 (C .chains) h₁, within 16384 (C .residues) h₂, past 65535 (C .segments-are) h)
+      past-segments h = rw (within 255 (C .chains m) h₁, few, past 65535 (C .segments-are) h)
 
       pub past-atoms : g ≤ 65535 → ltb 65535 (c .atoms) ≡ pastLimits s
       unfolding pastLimits
-      past-atoms h = rw (within 255 (C .chains) h₁, within 16384 (C .residues) h₂, within 65535 (C .segments-are) h, C .atoms)
+      past-atoms h = rw (within 255 (C .chains m) h₁, few, within 65535 (C .segments-are) h, C .atoms m)
 
-  pub marks-are : (marks : List ℕ) → Marks marks (c .chains) (letters (atomsOf s)) → Marks marks (chainsOf s) (letters (atomsOf s))
-  marks-are marks M = subst (λ (n : ℕ). Marks marks n (letters (atomsOf s))) (C .chains) M
+    pub size-is : 13 + c .chains + 9 * g + 33 * c .atoms ≡ sizeOf s
+    size-is = rw (C .chains m, C .segments-are, C .atoms m)
 
-  pub size-is : 13 + c .chains + 9 * g + 33 * c .atoms ≡ sizeOf s
-  size-is = rw (C .chains, C .segments-are, C .atoms)
+    pub marks-are : (marks : List ℕ) → Marks marks (c .chains) (letters (atomsOf s)) → Marks marks (chainsOf s) (letters (atomsOf s))
+    marks-are marks M = subst (λ (n : ℕ). Marks marks n (letters (atomsOf s))) (C .chains m) M
 
-  -- ---- the job's four parts
-  pub written : (out b₁ b₂ b₃ b₄ : List ℕ) → b₁ ≡ put out 0 (headBytes 1 33 (c .chains) (c .residues) g (c .atoms)) → b₂ ≡ put b₁ 13 (replicate (c .chains) 1)
-      → b₃ ≡ put b₂ (13 + c .chains) (flat segmentBytes (map (toSegment s) (segmentsOf s)))
-      → b₄ ≡ put b₃ (13 + c .chains + 9 * g) (flat atomBytes (map (toAtom s) (atomsOf s))) → b₄ ≡ put out 0 (pdbJob s)
-  unfolding pdbJob
-  written out b₁ b₂ b₃ b₄ e₁ e₂ e₃ e₄ =
-      rw (← C .chains, ← C .residues)
-      (job-made 1 33 atomBytes (c .chains) (c .residues) g (c .atoms) (map (toSegment s) (segmentsOf s)) (map (toAtom s) (atomsOf s))
-      (C .segments-are ∙ sym (length-map (segmentsOf s) (toSegment s))) (C .atoms ∙ sym (length-map (atomsOf s) (toAtom s))) out b₁ b₂ b₃ b₄ e₁ e₂ e₃ e₄)
+    -- the counts are within the limits, and so is every sum of them
+    pub within-limits : pastLimits s ≡ false → (c .chains ≤ 255) × (g ≤ 65535) × (c .atoms ≤ 65535)
+    within-limits e =
+        let L = limited s e in
+        (omega (arith, C .chains m, L .chains), omega (arith, C .segments-are, L .segments-are), omega (arith, C .atoms m, L .atoms))
+
+    -- ---- the job's four parts
+    pub written : (out b₁ b₂ b₄ : List ℕ) → b₁ ≡ put out 0 (headBytes 1 33 (c .chains) (c .residues) g (c .atoms)) → b₂ ≡ put b₁ 13 (replicate (c .chains) 1)
+        → b₄ ≡ put (put b₂ (13 + c .chains) (segmentsFrom s (records s))) (13 + c .chains + 9 * g) (atomsFrom s (records s)) → b₄ ≡ put out 0 (pdbJob s)
+    unfolding pdbJob
+    written out b₁ b₂ b₄ e₁ e₂ e₄ =
+        rw (← C .chains m, ← C .residues m)
+        (job-made 1 33 atomBytes (c .chains) (c .residues) g (c .atoms) (map (toSegment s) (segmentsOf s)) (map (toAtom s) (atomsOf s))
+        (C .segments-are ∙ sym (length-map (segmentsOf s) (toSegment s))) (C .atoms m ∙ sym (length-map (atomsOf s) (toAtom s))) out b₁ b₂ _ b₄ e₁ e₂ refl e₄)
 
 -- ---- 15 and 16
 module _ (s out : List ℕ) where
@@ -119,9 +139,9 @@ module _ (s out : List ℕ) where
     accept h = simp (few, le-ltb (length out) (sizeOf s) (subst (λ (n : ℕ). n ≤ length out) is h)) (ap Written is)
 
 -- ---- the survey's tables at the start, and what it told
-pub empty-tables : Noted (replicate 16384 0) (replicate 32768 0) (replicate 32768 0) (replicate 256 0) (record { atoms = 0; residues = 0; chains = 0 }) []
-unfolding last names letters distinct member numbered
-empty-tables = record {
+pub empty-tables : Noted (replicate 16384 0) (replicate 32768 0) (replicate 32768 0) (replicate 256 0) (record { atoms = 0; residues = 0; chains = 0; more = false }) []
+unfolding last distinct member numbered
+empty-tables = noted-whole _ _ _ _ _ [] refl (record {
   atoms = refl;
   residues = record {
     index = record {
@@ -137,7 +157,7 @@ empty-tables = record {
     last = λ i l. absurd (omega arith);
   };
   chains = record { size = length-replicate {A = ℕ} 256 0; count = refl; mark = λ x l. getD-replicate {A = ℕ} 256 x 0 0 l };
-}
+})
 
 -- where no line is at fault, every segment stands ahead
 own-clean-all : (n : ℕ) (rs : List Record) → isClean (ownFaults n rs) ≡ true → ahead rs ≡ length (segments rs)
@@ -162,20 +182,15 @@ clean-own ats n (ASegment g ∷ rs) e = clean-own ats (n + 1) rs (passed (presen
     passed true q = q
     passed false q = absurd (let z : _≡_ {A = ℕ} 0 1 = cc in omega arith)
 
-module _ (s keys links ends marks : List ℕ) (v : Overview) (S : Surveyed s keys links ends marks v) where
-  pub surveyed-past : 16384 < v .counts .residues → pastLimits s ≡ true
-  surveyed-past h = residues-past s (S .more h)
-
-  module _ (few : v .counts .residues ≤ 16384) where
-    pub surveyed-counts : isClean (faultIn s) ≡ true → Counted s (v .counts) (v .ahead)
-    surveyed-counts e =
-        let N = S .noted few in
-        record {
-          chains = N .chains .count;
-          residues = N .residues .keyed .count;
-          segments-are = S .ahead-is few ∙ own-clean-all 1 (records s) (clean-own (atomsOf s) 1 (records s) e);
-          atoms = N .atoms;
-        }
+pub surveyed-counts : (s keys links ends marks : List ℕ) (v : Overview) → Surveyed s keys links ends marks v → isClean (faultIn s) ≡ true → Counted s (v .counts) (v .ahead)
+surveyed-counts s keys links ends marks v S e = record {
+  past = λ m. S .noted .past m;
+  few = λ m. omega (arith, S .noted .known .index .few, S .noted .known .all m .count);
+  chains = λ m. S .noted .whole m .chains .count;
+  residues = λ m. S .noted .known .all m .count;
+  segments-are = S .ahead-is ∙ own-clean-all 1 (records s) (clean-own (atomsOf s) 1 (records s) e);
+  atoms = λ m. S .noted .whole m .atoms;
+}
 
 -- ---- the whole answer
 clean-is : (f : Fault) → isClean f ≡ true → f ≡ Clean
@@ -205,6 +220,3 @@ module _ (s out : List ℕ) (f : Fault) (ef : f ≡ faultIn s) where
   right c r out′ er eo =
       let z : byFault (faultIn s) (readChecks s (length out)) ≡ r = ap (λ (g : Fault). byFault g (readChecks s (length out))) (sym ef ∙ clean-is f c) ∙ sym er in
       (sym z, eo ∙ ap (λ (x : Read). readBy x s out) (sym z))
-
-pub clash : _≡_ {A = Bool} true false → ⊥
-clash e = let z : _≡_ {A = ℕ} 0 1 = cc in omega arith

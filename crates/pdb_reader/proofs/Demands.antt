@@ -24,7 +24,7 @@ use Rattle.job_writer.proofs.Readback.{job-size}
 use Rattle.job_writer.proofs.Fine.{written-fine}
 use Rattle.pdb_lines.specs.Lines.{lines}
 use Rattle.pdb_records.specs.declared.AtomLine.{AtomLine}
-use Rattle.pdb_reading.specs.Reading.{reading, atoms, segments, atomsOf, segmentsOf, names, letters}
+use Rattle.pdb_reading.specs.Reading.{reading, atoms, segments, atomsOf, segmentsOf}
 use Rattle.pdb_reading.specs.Faults.{faultIn}
 use Rattle.pdb_reading.specs.declared.Fault.{Fault}
 use Rattle.pdb_reading.specs.declared.Fault.the-variants.{Clean, LineShort, LineWrong, NoResidue}
@@ -154,5 +154,5 @@ coordinates-placed s k a t e =
 
 -- an empty file gives the 13-byte job
 pub empty-file : pdbJob [] ≡ 0 ∷ 0 ∷ 0 ∷ 9 ∷ 1 ∷ 0 ∷ 0 ∷ 0 ∷ 0 ∷ 0 ∷ 0 ∷ 0 ∷ 0 ∷ []
-unfolding pdbJob jobBytes headBytes u32 u16 flat lines reading atoms segments names letters distinct
+unfolding pdbJob jobBytes headBytes u32 u16 flat lines reading atoms segments distinct
 empty-file = refl

@@ -26,7 +26,7 @@ use Rattle.pdb_records.specs.declared.Record.{Record}
 use Rattle.pdb_records.specs.declared.Record.the-variants.{Skipped}
 use Rattle.pdb_records.specs.declared.AtomLine.{AtomLine}
 use Rattle.pdb_records.specs.declared.SegmentLine.{SegmentLine}
-use Rattle.pdb_reading.specs.Reading.{stops, saw, reading, records, atomsIn, atoms, segmentsIn, segments, names, letters, atomsOf, segmentsOf}
+use Rattle.pdb_reading.specs.Reading.{stops, saw, reading, records, atomsIn, atoms, segmentsIn, segments, atomsOf, segmentsOf}
 use Rattle.pdb_reading.specs.Faults.{faultOf, firstOf, faults, faultIn}
 use Rattle.pdb_reading.specs.declared.Fault.{Fault}
 use Rattle.pdb_reading.specs.declared.Fault.the-variants.{Clean, LineShort, LineWrong, NoResidue}
@@ -215,5 +215,5 @@ oneJob role =
 -- " CA " gives a C-alpha and "CA  " an atom of role 0, in a job of 47 bytes: 47 places suffice and 46 do not
 pub one-atom : (pdbJob (oneAtom CA) ≡ oneJob 1) × (pdbJob (oneAtom (67 ∷ 65 ∷ 32 ∷ 32 ∷ [])) ≡ oneJob 0)
     × (readAnswer (oneAtom CA) 47 ≡ Written 47) × (readAnswer (oneAtom CA) 46 ≡ NoJob (NoJobRoom 47))
-unfolding readAnswer readChecks pastLimits pdbJob jobBytes headBytes atomBytes point u64 u32 u16 flat lines reading kindOf ofKind atomOf roleOf named same whole thousandths run decimal bits coordinate round toBits atoms segments names letters distinct member place faults
+unfolding readAnswer readChecks pastLimits pdbJob jobBytes headBytes atomBytes point u64 u32 u16 flat lines reading kindOf ofKind atomOf roleOf named same whole thousandths run decimal bits coordinate round toBits atoms segments distinct member place faults
 one-atom = (refl, refl, refl, refl)

@@ -1,5 +1,5 @@
-pub mod Faults
-pub mod Records
+pub mod AtFault
+pub mod Writing
 pub mod Answers
 pub mod Small
 pub mod Range

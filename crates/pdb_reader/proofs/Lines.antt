@@ -18,7 +18,7 @@ use Rattle.pdb_fields.specs.Numbers.{whole, thousandths}
 use Rattle.pdb_fields.specs.declared.Number.{Number}
 use Rattle.pdb_fields.specs.declared.Number.the-variants.{Bad, Good}
 use Rattle.pdb_records.specs.Names.{CA, O}
-use Rattle.pdb_records.specs.Records.{roleOf, serialOf, residueOf, bitsOf, with, segmentOf, atomOf, helixOf, sheetOf, kindOf, ofKind}
+use Rattle.pdb_records.specs.Records.{roleOf, serialOf, residueAt, bitsOf, with, segmentOf, atomOf, kindOf, ofKind}
 use Rattle.pdb_records.specs.declared.Kind.{Kind}
 use Rattle.pdb_records.specs.declared.Kind.the-variants.{Atom, Helix, Sheet, Model, Endmdl, Other}
 use Rattle.pdb_records.specs.declared.Field.{Field}
@@ -85,7 +85,7 @@ role-low l = go (named CA 13 l) (named O 13 l)
 sound-atom : (l : List ℕ) → Sound (atomOf l)
 unfolding atomOf
 sound-atom l =
-    go (ltb (length l) 54) (serialOf (whole (columns 7 11 l))) (residueOf (column 22 l) (whole (columns 23 26 l)) (column 27 l)) (bitsOf (thousandths (columns 31 38 l)))
+    go (ltb (length l) 54) (serialOf (whole (columns 7 11 l))) (residueAt 22 23 l) (bitsOf (thousandths (columns 31 38 l)))
     (bitsOf (thousandths (columns 39 46 l))) (bitsOf (thousandths (columns 47 54 l))) refl refl refl
   where
     go : (b : Bool) (fs fr fx fy fz : Field) → bitsOf (thousandths (columns 31 38 l)) ≡ fx → bitsOf (thousandths (columns 39 46 l)) ≡ fy → bitsOf (thousandths (columns 47 54 l)) ≡ fz
@@ -103,19 +103,21 @@ sound-atom l =
         let pz = placed (columns 47 54 l) z (take-le 8 (drop 46 l)) ez in
         record { role = role-low l; x = px .0; y = py .0; z = pz .0; plus-x = px .1; plus-y = py .1; plus-z = pz .1 }
 
-sound-segment : (t : Bool) (k : ℕ) (a b : Field) → k ≤ 2 → Sound (cond t Short (segmentOf k a b))
-sound-segment true k a b h = tt
-sound-segment false k field.Wrong b h = tt
-sound-segment false k (field.Right s) field.Wrong h = tt
-sound-segment false k (field.Right s) (field.Right e) h = h
+sound-segment : (k c n c′ n′ : ℕ) (l : List ℕ) → k ≤ 2 → Sound (segmentOf k c n c′ n′ l)
+unfolding segmentOf
+sound-segment k c n c′ n′ l h = go (ltb (length l) 38) (residueAt c n l) (residueAt c′ n′ l)
+  where
+    go : (t : Bool) (a b : Field) → Sound (cond t Short (with a (λ s. with b (λ e. ASegment (record { kind = k; start = s; end = e })))))
+    go true a b = tt
+    go false field.Wrong b = tt
+    go false (field.Right s) field.Wrong = tt
+    go false (field.Right s) (field.Right e) = h
 
 sound-line : (k : Kind) (l : List ℕ) → Sound (ofKind k l)
-unfolding ofKind helixOf sheetOf
+unfolding ofKind
 sound-line Atom l = sound-atom l
-sound-line Helix l =
-    sound-segment (ltb (length l) 38) 1 (residueOf (column 20 l) (whole (columns 22 25 l)) (column 26 l)) (residueOf (column 32 l) (whole (columns 34 37 l)) (column 38 l)) (omega arith)
-sound-line Sheet l =
-    sound-segment (ltb (length l) 38) 2 (residueOf (column 22 l) (whole (columns 23 26 l)) (column 27 l)) (residueOf (column 33 l) (whole (columns 34 37 l)) (column 38 l)) (omega arith)
+sound-line Helix l = sound-segment 1 20 22 32 34 l (omega arith)
+sound-line Sheet l = sound-segment 2 22 23 33 34 l (omega arith)
 sound-line Model l = tt
 sound-line Endmdl l = tt
 sound-line Other l = tt
@@ -187,7 +189,7 @@ or-true true = refl
 or-true false = refl
 
 pub name-in : (l : List AtomLine) (k : ℕ) (a : AtomLine) (t : List AtomLine) → drop k l ≡ a ∷ t → (member (a .name) (names l) ≡ true) × (member (a .chain) (letters l) ≡ true)
-unfolding member names letters
+unfolding member
 name-in [] zero a t e = absurd (let z : _≡_ {A = ℕ} 0 1 = cc in omega arith)
 name-in [] (suc k) a t e = absurd (let z : _≡_ {A = ℕ} 0 1 = cc in omega arith)
 name-in (b ∷ l) zero a t e =

@@ -1,3 +1,4 @@
 pub mod Structure
 pub mod Call
 pub mod Counted
+pub mod Parts

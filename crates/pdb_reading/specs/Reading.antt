@@ -1,6 +1,6 @@
 -- A PDB file as a list of records: its lines 'until the first ENDMDL or a second MODEL' (02 §1), and the atoms and segments that they give.
 use Prim.Native.Nat.{ℕ}
-use mathlib.Core.List.{List, [], _∷_, _++_}
+use mathlib.Core.List.{List, [], _∷_, _++_, map}
 use mathlib.Core.Bool.{Bool, true, false, cond}
 use lib.ListN.{drop}
 use Rattle.pdb_lines.specs.Lines.{lines}
@@ -70,13 +70,11 @@ segments [] = []
 segments (r ∷ rs) = segmentsIn r ++ segments rs
 
 -- the names of the atoms' residues, and the letters of their chains, atom by atom
-unfoldable pub names : List AtomLine → List ℕ
-names [] = []
-names (a ∷ l) = a .name ∷ names l
+abbrev pub names : List AtomLine → List ℕ
+names l = map (λ (a : AtomLine). a .name) l
 
-unfoldable pub letters : List AtomLine → List ℕ
-letters [] = []
-letters (a ∷ l) = a .chain ∷ letters l
+abbrev pub letters : List AtomLine → List ℕ
+letters l = map (λ (a : AtomLine). a .chain) l
 
 -- 'ATOM .. of PDB format 3.3': a file's atoms; 'Segments, in file order'
 abbrev pub atomsOf : List ℕ → List AtomLine

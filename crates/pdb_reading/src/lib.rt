@@ -1,39 +1,17 @@
 // A walk over the records of a PDB file.
-use pdb_records::AtomLine;
 use pdb_records::Kind;
 use pdb_records::Record;
-use pdb_records::SegmentLine;
 ghost use mathlib.Core.Path.{_≡_};
 ghost use mathlib.Core.Bool.{true, false};
 ghost use Prim.Native.Nat.{_≤_};
 ghost use lib.ListN.{length};
 ghost use Rattle.pdb_reading.specs.Reading.{stops, saw, atomsOf};
-ghost use Rattle.pdb_reading.specs.Faults.{foundIn, firstAtom, isFound, isClean, faultOf, faultIn};
-ghost use Rattle.pdb_reading.specs.Steps.{Stepped, AtomStepped, SegmentStepped, atomIn, segmentIn};
+ghost use Rattle.pdb_reading.specs.Faults.{foundIn, firstAtom, isFound, isClean};
+ghost use Rattle.pdb_reading.specs.Steps.{Stepped};
 
 pub enum Next {
     Done,
     Got(Record, usize, bool),
-}
-
-pub enum MaybeAtom {
-    NoAtom,
-    TheAtom(AtomLine),
-}
-
-pub enum NextAtom {
-    NoMoreAtoms,
-    AtomHere(AtomLine, usize, bool),
-}
-
-pub enum MaybeSegment {
-    NoSegment,
-    TheSegment(SegmentLine),
-}
-
-pub enum NextSegment {
-    NoMoreSegments,
-    SegmentHere(SegmentLine, usize, bool),
 }
 
 pub enum Found {
@@ -95,76 +73,6 @@ pub fn step(s: &[u8], at: usize, seen: bool) -> Next
     )
 }
 
-pub fn atom_in(r: Record) -> MaybeAtom
-    ensures { λ m. ⌜ m ≡ atomIn r ⌝ }
-{
-    match r {
-        Record::AnAtom(a) => MaybeAtom::TheAtom(a),
-        Record::ASegment(_) => MaybeAtom::NoAtom,
-        Record::Skipped => MaybeAtom::NoAtom,
-        Record::Short => MaybeAtom::NoAtom,
-        Record::BadNumber => MaybeAtom::NoAtom,
-    }
-}
-
-// The next atom from a place of the file on.
-pub fn next_atom(s: &[u8], from: usize, saw: bool) -> NextAtom
-    requires { ⌜ from ≤ length (now s) ⌝ }
-    ensures { λ r. ⌜ AtomStepped (now (s .entry)) from saw r ⌝ }
-{
-    let mut at = from;
-    let mut seen = saw;
-    loop {
-        let n = step(s, at, seen);
-        match n {
-            Next::Done => return NextAtom::NoMoreAtoms,
-            Next::Got(r, a, v) => {
-                let m = atom_in(r);
-                if let MaybeAtom::TheAtom(x) = m {
-                    return NextAtom::AtomHere(x, a, v);
-                }
-                at = a;
-                seen = v;
-            }
-        }
-    }
-}
-
-pub fn segment_in(r: Record) -> MaybeSegment
-    ensures { λ m. ⌜ m ≡ segmentIn r ⌝ }
-{
-    match r {
-        Record::ASegment(g) => MaybeSegment::TheSegment(g),
-        Record::AnAtom(_) => MaybeSegment::NoSegment,
-        Record::Skipped => MaybeSegment::NoSegment,
-        Record::Short => MaybeSegment::NoSegment,
-        Record::BadNumber => MaybeSegment::NoSegment,
-    }
-}
-
-// The next segment from a place of the file on.
-pub fn next_segment(s: &[u8], from: usize, saw: bool) -> NextSegment
-    requires { ⌜ from ≤ length (now s) ⌝ }
-    ensures { λ r. ⌜ SegmentStepped (now (s .entry)) from saw r ⌝ }
-{
-    let mut at = from;
-    let mut seen = saw;
-    loop {
-        let n = step(s, at, seen);
-        match n {
-            Next::Done => return NextSegment::NoMoreSegments,
-            Next::Got(r, a, v) => {
-                let m = segment_in(r);
-                if let MaybeSegment::TheSegment(g) = m {
-                    return NextSegment::SegmentHere(g, a, v);
-                }
-                at = a;
-                seen = v;
-            }
-        }
-    }
-}
-
 fn found_in(name: u64, r: Record) -> Found
     ensures { λ f. ⌜ f ≡ foundIn name r ⌝ }
 {
@@ -183,7 +91,7 @@ fn found_in(name: u64, r: Record) -> Found
 }
 
 // The serial of a residue's first atom.
-pub fn first_atom(s: &[u8], name: u64) -> Found
+fn first_atom(s: &[u8], name: u64) -> Found
     ensures { λ r. ⌜ r ≡ firstAtom name (atomsOf (now (s .entry))) ⌝ }
 {
     let mut at = 0;
@@ -204,35 +112,14 @@ pub fn first_atom(s: &[u8], name: u64) -> Found
     }
 }
 
-fn is_present(s: &[u8], name: u64) -> bool
+// Whether an atom of the file is of this residue: the whole file is read up to it.
+pub fn is_present(s: &[u8], name: u64) -> bool
     ensures { λ r. ⌜ r ≡ isFound (firstAtom name (atomsOf (now (s .entry)))) ⌝ }
 {
     let f = first_atom(s, name);
     match f {
         Found::Nowhere => false,
         Found::Serial(_) => true,
-    }
-}
-
-// What a record is at fault for, at line `n`.
-fn fault_of(s: &[u8], n: usize, r: Record) -> Fault
-    ensures { λ f. ⌜ f ≡ faultOf (atomsOf (now (s .entry))) n r ⌝ }
-{
-    match r {
-        Record::Skipped => Fault::Clean,
-        Record::Short => Fault::LineShort(n),
-        Record::BadNumber => Fault::LineWrong(n),
-        Record::AnAtom(_) => Fault::Clean,
-        Record::ASegment(g) => {
-            let a = is_present(s, g.start);
-            if a {
-                let b = is_present(s, g.end);
-                if b {
-                    return Fault::Clean;
-                }
-            }
-            Fault::NoResidue(n)
-        }
     }
 }
 
@@ -244,30 +131,5 @@ pub fn is_clean(f: Fault) -> bool
         Fault::LineShort(_) => false,
         Fault::LineWrong(_) => false,
         Fault::NoResidue(_) => false,
-    }
-}
-
-// The first line at fault.
-pub fn find_fault(s: &[u8]) -> Fault
-    ensures { λ r. ⌜ r ≡ faultIn (now (s .entry)) ⌝ }
-{
-    let mut at = 0;
-    let mut seen = false;
-    let mut line = 1;
-    loop {
-        let n = step(s, at, seen);
-        match n {
-            Next::Done => return Fault::Clean,
-            Next::Got(r, a, v) => {
-                let f = fault_of(s, line, r);
-                if is_clean(f) {
-                    at = a;
-                    seen = v;
-                    line += 1;
-                } else {
-                    return f;
-                }
-            }
-        }
     }
 }

@@ -55,36 +55,36 @@ abbrev pub with : Field → (ℕ → Record) → Record
 with Wrong f = BadNumber
 with (Right n) f = f n
 
+-- the residue whose chain letter is in column c, its number in the four columns from n on, its insertion code in the next
+abbrev pub residueAt : ℕ → ℕ → List ℕ → Field
+residueAt c n l = residueOf (column c l) (whole (columns n (n + 3) l)) (column (n + 4) l)
+
 -- ATOM: serial 7-11, name 13-16, chain 22, number 23-26, insertion code 27, x 31-38, y 39-46, z 47-54
 unfoldable pub atomOf : List ℕ → Record
 atomOf l =
     cond (ltb (length l) 54) Short
     (with (serialOf (whole (columns 7 11 l))) (λ s.
-    with (residueOf (column 22 l) (whole (columns 23 26 l)) (column 27 l)) (λ r.
+    with (residueAt 22 23 l) (λ r.
     with (bitsOf (thousandths (columns 31 38 l))) (λ x.
     with (bitsOf (thousandths (columns 39 46 l))) (λ y.
     with (bitsOf (thousandths (columns 47 54 l))) (λ z.
     AnAtom (record { serial = s; role = roleOf l; chain = column 22 l; name = r; x = x; y = y; z = z })))))))
 
--- a segment from one residue to another
-abbrev pub segmentOf : ℕ → Field → Field → Record
-segmentOf kind a b = with a (λ s. with b (λ e. ASegment (record { kind = kind; start = s; end = e })))
+-- a segment from the residue at columns c and n to that at c′ and n′; the last column read is 38
+unfoldable pub segmentOf : ℕ → ℕ → ℕ → ℕ → ℕ → List ℕ → Record
+segmentOf kind c n c′ n′ l =
+    cond (ltb (length l) 38) Short
+    (with (residueAt c n l) (λ s.
+    with (residueAt c′ n′ l) (λ e.
+    ASegment (record { kind = kind; start = s; end = e }))))
 
 -- HELIX: chain 20, number 22-25, insertion code 26; chain 32, number 34-37, insertion code 38
-unfoldable pub helixOf : List ℕ → Record
-helixOf l =
-    cond (ltb (length l) 38) Short
-    (segmentOf 1
-    (residueOf (column 20 l) (whole (columns 22 25 l)) (column 26 l))
-    (residueOf (column 32 l) (whole (columns 34 37 l)) (column 38 l)))
+abbrev pub helixOf : List ℕ → Record
+helixOf l = segmentOf 1 20 22 32 34 l
 
 -- SHEET: chain 22, number 23-26, insertion code 27; chain 33, number 34-37, insertion code 38
-unfoldable pub sheetOf : List ℕ → Record
-sheetOf l =
-    cond (ltb (length l) 38) Short
-    (segmentOf 2
-    (residueOf (column 22 l) (whole (columns 23 26 l)) (column 27 l))
-    (residueOf (column 33 l) (whole (columns 34 37 l)) (column 38 l)))
+abbrev pub sheetOf : List ℕ → Record
+sheetOf l = segmentOf 2 22 23 33 34 l
 
 -- by kind; a line that is none of the three is passed over
 unfoldable pub ofKind : Kind → List ℕ → Record

@@ -4,7 +4,7 @@ ghost use mathlib.Core.Path.{_≡_};
 ghost use Prim.Native.Nat.{_+_, _*_, _-_, _<_, _≤_};
 ghost use lib.ListN.{length};
 ghost use Rattle.pdb_fields.specs.Numbers.{whole, thousandths};
-ghost use Rattle.pdb_records.specs.Records.{kindOf, roleOf, serialOf, residueOf, bitsOf, segmentOf, atomOf, helixOf, sheetOf, ofKind};
+ghost use Rattle.pdb_records.specs.Records.{kindOf, roleOf, serialOf, residueOf, residueAt, bitsOf, segmentOf, atomOf, ofKind};
 
 pub enum Kind {
     Atom,
@@ -122,6 +122,14 @@ fn residue_in(l: &[u8], chain: u8, icode: u8) -> Field
     }
 }
 
+// The residue whose chain letter is in column `chain`, counted from 1, its number in the four from `number` on, its insertion code in the next.
+fn residue_at(l: &[u8], chain: usize, number: usize) -> Field
+    requires { ⌜ (0 < chain) × (chain ≤ length (now l)) × (0 < number) × (number + 4 ≤ length (now l)) ⌝ }
+    ensures { λ r. ⌜ r ≡ residueAt chain number (now (l .entry)) ⌝ }
+{
+    residue_in(&l[number - 1..number + 3], l[chain - 1], l[number + 3])
+}
+
 fn atom_of(l: &[u8]) -> Record
     ensures { λ r. ⌜ r ≡ atomOf (now (l .entry)) ⌝ }
 {
@@ -132,7 +140,7 @@ fn atom_of(l: &[u8]) -> Record
     let Field::Right(serial) = s else {
         return Record::BadNumber;
     };
-    let n = residue_in(&l[22..26], l[21], l[26]);
+    let n = residue_at(l, 22, 23);
     let Field::Right(name) = n else {
         return Record::BadNumber;
     };
@@ -159,38 +167,30 @@ fn atom_of(l: &[u8]) -> Record
     })
 }
 
-fn segment_of(kind: u8, a: Field, b: Field) -> Record
-    ensures { λ r. ⌜ r ≡ segmentOf kind a b ⌝ }
-{
-    match a {
-        Field::Wrong => Record::BadNumber,
-        Field::Right(start) => match b {
-            Field::Wrong => Record::BadNumber,
-            Field::Right(end) => Record::ASegment(SegmentLine { kind, start, end }),
-        },
-    }
-}
-
-fn helix_of(l: &[u8]) -> Record
-    ensures { λ r. ⌜ r ≡ helixOf (now (l .entry)) ⌝ }
+// A HELIX or SHEET line; the columns are those of `residue_at`, for its first residue and for its last.
+fn segment_of(
+    l: &[u8],
+    kind: u8,
+    chain: usize,
+    number: usize,
+    chain2: usize,
+    number2: usize,
+) -> Record
+    requires { ⌜ (0 < chain) × (chain ≤ 38) × (0 < number) × (number ≤ 34) × (0 < chain2) × (chain2 ≤ 38) × (0 < number2) × (number2 ≤ 34) ⌝ }
+    ensures { λ r. ⌜ r ≡ segmentOf kind chain number chain2 number2 (now (l .entry)) ⌝ }
 {
     if l.len() < 38 {
         return Record::Short;
     }
-    let a = residue_in(&l[21..25], l[19], l[25]);
-    let b = residue_in(&l[33..37], l[31], l[37]);
-    segment_of(1, a, b)
-}
-
-fn sheet_of(l: &[u8]) -> Record
-    ensures { λ r. ⌜ r ≡ sheetOf (now (l .entry)) ⌝ }
-{
-    if l.len() < 38 {
-        return Record::Short;
-    }
-    let a = residue_in(&l[22..26], l[21], l[26]);
-    let b = residue_in(&l[33..37], l[32], l[37]);
-    segment_of(2, a, b)
+    let a = residue_at(l, chain, number);
+    let Field::Right(start) = a else {
+        return Record::BadNumber;
+    };
+    let b = residue_at(l, chain2, number2);
+    let Field::Right(end) = b else {
+        return Record::BadNumber;
+    };
+    Record::ASegment(SegmentLine { kind, start, end })
 }
 
 pub fn record_of(k: Kind, l: &[u8]) -> Record
@@ -198,8 +198,8 @@ pub fn record_of(k: Kind, l: &[u8]) -> Record
 {
     match k {
         Kind::Atom => atom_of(l),
-        Kind::Helix => helix_of(l),
-        Kind::Sheet => sheet_of(l),
+        Kind::Helix => segment_of(l, 1, 20, 22, 32, 34),
+        Kind::Sheet => segment_of(l, 2, 22, 23, 33, 34),
         Kind::Model => Record::Skipped,
         Kind::Endmdl => Record::Skipped,
         Kind::Other => Record::Skipped,

@@ -2,7 +2,7 @@
 use Prim.Native.Nat.{ℕ}
 use mathlib.Core.Bool.{Bool, true, false, cond, _||_}
 use mathlib.Core.Path.{_≡_, refl, sym, ap, _∙_}
-use mathlib.Core.List.{List, [], _∷_, _++_}
+use mathlib.Core.List.{List, [], _∷_, _++_, map-append}
 use native.Mathlib.Omega.{arith}
 use lib.Dec.{eqb}
 use borrow.Author.Tests.{eqb-true, eqb-false, eq-eqb, ne-eqb}
@@ -14,14 +14,10 @@ use Rattle.pdb_reading.specs.Reading.{names, letters}
 use Rattle.pdb_reading.specs.Faults.{firstAtom, lastAtom, orElse, isFound}
 
 pub names-more : (l : List AtomLine) (a : AtomLine) → names (l ++ (a ∷ [])) ≡ names l ++ (a .name ∷ [])
-unfolding names
-names-more [] a = refl
-names-more (b ∷ l) a = ap (λ (t : List ℕ). b .name ∷ t) (names-more l a)
+names-more l a = map-append (λ (a : AtomLine). a .name) l (a ∷ [])
 
 pub letters-more : (l : List AtomLine) (a : AtomLine) → letters (l ++ (a ∷ [])) ≡ letters l ++ (a .chain ∷ [])
-unfolding letters
-letters-more [] a = refl
-letters-more (b ∷ l) a = ap (λ (t : List ℕ). b .chain ∷ t) (letters-more l a)
+letters-more l a = map-append (λ (a : AtomLine). a .chain) l (a ∷ [])
 
 eqb-sym : (a b : ℕ) → eqb a b ≡ eqb b a
 eqb-sym a b = go (eqb a b) refl
@@ -32,7 +28,7 @@ eqb-sym a b = go (eqb a b) refl
 
 -- a residue is found exactly when its name is there
 pub found-member : (n : ℕ) (l : List AtomLine) → isFound (firstAtom n l) ≡ member n (names l)
-unfolding firstAtom names member
+unfolding firstAtom member
 found-member n [] = refl
 found-member n (a ∷ l) = go (eqb (a .name) n) (eqb-sym (a .name) n) (found-member n l)
   where

@@ -12,14 +12,14 @@ use lib.ListN.{length, getD, set, length-set}
 use lib.Seq.{getD-set-same, getD-set-other}
 use borrow.Author.Tests.{eqb-true, eqb-false}
 use Rattle.job.specs.Search.{last}
-use Rattle.appearance.specs.Order.{member, numbered}
+use Rattle.appearance.specs.Order.{member, order, numbered}
 use Rattle.appearance.specs.Index.{Index, Keyed, isKey}
 use Rattle.appearance.proofs.Found.{last-taken}
 use Rattle.appearance.proofs.Numbers.{found-number, keyed-member, keyed-number, keyed-seen, keyed-new, number-none, number-some, number-new, number-kept, number-other, count-seen, count-new}
 use Rattle.pdb_records.specs.declared.AtomLine.{AtomLine}
 use Rattle.pdb_reading.specs.Reading.{names}
 use Rattle.pdb_reading.specs.Faults.{firstAtom, lastAtom, serialIn}
-use Rattle.pdb_survey.specs.Tables.{Residues, Marks, OrMore}
+use Rattle.pdb_survey.specs.Tables.{Residues, Marks}
 use Rattle.pdb_survey.proofs.Atoms.{names-more, first-kept, first-new, last-here, last-kept}
 
 module _ (keys links ends : List ℕ) (n : ℕ) (l : List AtomLine) (a : AtomLine) (R : Residues keys links ends n l) (p : ℕ) (e : p ≡ last (isKey keys (a .name)) n) where
@@ -66,29 +66,23 @@ module _ (keys links ends : List ℕ) (n : ℕ) (l : List AtomLine) (a : AtomLin
         getD-set-other ends (16383 + p) (16384 + i) (a .serial) 0 (λ z. d (omega arith))
         ∙ R .last i h ∙ ap serialIn (sym (last-kept l a (getD keys i 0) (other i h d)))
 
-    pub atom-seen : OrMore n more (Residues keys links (set ends (16383 + p) (a .serial)) n more)
-    atom-seen = (
-      λ _. record {
-        index = R .index;
-        keyed = subst (Keyed keys n) (sym (names-more l a)) (keyed-seen keys n (names l) (a .name) (R .keyed) seen);
-        size = length-set ends (16383 + p) (a .serial) ∙ R .size;
-        first = λ i h.
-            getD-set-other ends (16383 + p) i (a .serial) 0 (λ z. omega (arith, R .index .few)) ∙ R .first i h
-            ∙ ap serialIn (sym (first-kept l a (getD keys i 0) (old-member i h)));
-        last = λ i h. at-last i h (eqb (i + 1) p) refl;
-      },
-      λ z. absurd (omega (arith, R .index .few)),
-    )
+    pub atom-seen : Residues keys links (set ends (16383 + p) (a .serial)) n more
+    atom-seen = record {
+      index = R .index;
+      keyed = subst (Keyed keys n) (sym (names-more l a)) (keyed-seen keys n (names l) (a .name) (R .keyed) seen);
+      size = length-set ends (16383 + p) (a .serial) ∙ R .size;
+      first = λ i h.
+          getD-set-other ends (16383 + p) i (a .serial) 0 (λ z. omega (arith, R .index .few)) ∙ R .first i h
+          ∙ ap serialIn (sym (first-kept l a (getD keys i 0) (old-member i h)));
+      last = λ i h. at-last i h (eqb (i + 1) p) refl;
+    }
 
   module _ (none : p ≤ 0) where
     new : member (a .name) (names l) ≡ false
     new = number-none (names l) (a .name) (sym number ∙ omega arith)
 
-    pub atom-full : n ≡ 16384 → (P : Type 0) → OrMore 16385 more P
-    atom-full f P = (
-      λ z. absurd (omega arith),
-      λ z. rw (names-more l a) (omega (arith, count-new (names l) (a .name) new, R .keyed .count)),
-    )
+    pub atom-full : n ≡ 16384 → 16384 < length (order (names more))
+    atom-full f = rw (names-more l a) (omega (arith, count-new (names l) (a .name) new, R .keyed .count))
 
     module _ (few : n < 16384) (keys′ links′ : List ℕ) (ek : keys′ ≡ set keys n (a .name)) (I : Index keys′ links′ (n + 1)) where
       ends′ : List ℕ
@@ -136,20 +130,17 @@ module _ (keys links ends : List ℕ) (n : ℕ) (l : List AtomLine) (a : AtomLin
           ∙ getD-set-other ends n (16384 + i) (a .serial) 0 (λ w. omega arith)
           ∙ R .last i b ∙ ap serialIn (sym (ap (λ (k : ℕ). lastAtom k more) (key-old i b) ∙ last-kept l a (getD keys i 0) (differs i b)))
 
-      pub atom-new : OrMore (n + 1) more (Residues keys′ links′ (set (set ends n (a .serial)) (16384 + n) (a .serial)) (n + 1) more)
+      pub atom-new : Residues keys′ links′ (set (set ends n (a .serial)) (16384 + n) (a .serial)) (n + 1) more
       unfolding ends′
-      atom-new = (
-        λ _. record {
-          index = I;
-          keyed = subst (Keyed keys′ (n + 1)) (sym (names-more l a))
-              (subst (λ (k : List ℕ). Keyed k (n + 1) (names l ++ (a .name ∷ []))) (sym ek)
-              (keyed-new keys n (names l) (a .name) (R .keyed) new (omega (arith, R .index .keys-size))));
-          size = length-set (set ends n (a .serial)) (16384 + n) (a .serial) ∙ once;
-          first = λ i h. first-at i h (eqb i n) refl;
-          last = λ i h. last-at i h (eqb i n) refl;
-        },
-        λ z. absurd (omega arith),
-      )
+      atom-new = record {
+        index = I;
+        keyed = subst (Keyed keys′ (n + 1)) (sym (names-more l a))
+            (subst (λ (k : List ℕ). Keyed k (n + 1) (names l ++ (a .name ∷ []))) (sym ek)
+            (keyed-new keys n (names l) (a .name) (R .keyed) new (omega (arith, R .index .keys-size))));
+        size = length-set (set ends n (a .serial)) (16384 + n) (a .serial) ∙ once;
+        first = λ i h. first-at i h (eqb i n) refl;
+        last = λ i h. last-at i h (eqb i n) refl;
+      }
 
 -- ---- chains
 module _ (marks : List ℕ) (c : ℕ) (l : List ℕ) (x : ℕ) (M : Marks marks c l) (low : x < 256) where

@@ -2,64 +2,86 @@
 use Prim.Native.Nat.{ℕ, _+_, _<_, _≤_}
 use mathlib.Core.Bool.{Bool, true, false, cond}
 use mathlib.Core.Path.{_≡_, refl, sym, ap, _∙_, subst}
-use mathlib.Core.List.{List, [], _∷_, _++_, append-assoc, append-nil}
+use mathlib.Core.List.{List, [], _∷_, _++_, append-assoc, append-nil, map-append}
 use native.Mathlib.Nat.{le-trans}
 use native.Mathlib.Omega.{arith}
-use lib.ListN.{length, length-append}
-use Rattle.appearance.specs.Order.{order}
-use Rattle.appearance.proofs.Laws.{order-grows}
+use lib.ListN.{length, getD, length-append}
+use Rattle.job.specs.Search.{last}
+use Rattle.appearance.specs.Order.{member}
+use Rattle.appearance.specs.Index.{isKey}
+use Rattle.appearance.proofs.Laws.{member-append, order-grows}
+use Rattle.appearance.proofs.Numbers.{keyed-member}
 use Rattle.pdb_records.specs.declared.AtomLine.{AtomLine}
 use Rattle.pdb_records.specs.declared.Record.{Record}
 use Rattle.pdb_records.specs.declared.Record.the-variants.{Skipped, Short, BadNumber, AnAtom, ASegment}
 use Rattle.pdb_reading.specs.Reading.{rest, records, atoms, atomsOf, atomsIn, segmentsIn, names, letters}
-use Rattle.pdb_reading.specs.Steps.{Onward, atomIn}
+use Rattle.pdb_reading.specs.Steps.{Onward}
 use Rattle.pdb_reading.specs.Faults.{isClean, firstOf}
-use Rattle.pdb_reading.specs.declared.MaybeAtom.{MaybeAtom}
-use Rattle.pdb_reading.specs.declared.MaybeAtom.the-variants.{NoAtom, TheAtom}
 use Rattle.pdb_reading.specs.declared.Fault.{Fault}
 use Rattle.pdb_reading.specs.declared.Fault.the-variants.{Clean, LineShort, LineWrong, NoResidue}
 use Rattle.pdb_survey.specs.Lines.{ownFault, ownFaults, ahead, counted}
-use Rattle.pdb_survey.specs.Tables.{Residues, Marks, Noted, OrMore, Surveyed}
+use Rattle.pdb_survey.specs.Tables.{Residues, Marks, Whole, Noted, Surveyed}
 use Rattle.pdb_survey.specs.declared.Counts.{Counts}
 use Rattle.pdb_survey.proofs.Atoms.{letters-more}
+use Rattle.pdb_survey.proofs.Tables.{atom-full}
+
+clash : (b : Bool) → b ≡ true → b ≡ false → ⊥
+clash b p q = let w : _≡_ {A = Bool} true false = sym p ∙ q in let z : _≡_ {A = ℕ} 0 1 = cc in omega arith
 
 -- ---- the tables with what one line gives
-no-atom : (r : Record) (m : MaybeAtom) → m ≡ atomIn r → m ≡ NoAtom → atomsIn r ≡ []
-no-atom Skipped m q e = refl
-no-atom Short m q e = refl
-no-atom BadNumber m q e = refl
-no-atom (ASegment g) m q e = refl
-no-atom (AnAtom a) m q e = absurd (let z : _≡_ {A = ℕ} 0 1 = cc in omega arith)
+pub noted-whole : (keys links ends marks : List ℕ) (c : Counts) (l : List AtomLine) → c .more ≡ false → Whole keys links ends marks c l → Noted keys links ends marks c l
+noted-whole keys links ends marks c l e W = record {
+  known = record {
+    index = W .residues .index;
+    among = λ i h. keyed-member keys (c .residues) (names l) (W .residues .keyed) i h;
+    all = λ _. W .residues .keyed;
+  };
+  past = λ q. absurd (clash (c .more) q e);
+  whole = λ _. W;
+}
 
-the-atom : (r : Record) (m : MaybeAtom) (a : AtomLine) → m ≡ atomIn r → m ≡ TheAtom a → atomsIn r ≡ a ∷ []
-the-atom Skipped m a q e = absurd (let z : _≡_ {A = ℕ} 0 1 = cc in omega arith)
-the-atom Short m a q e = absurd (let z : _≡_ {A = ℕ} 0 1 = cc in omega arith)
-the-atom BadNumber m a q e = absurd (let z : _≡_ {A = ℕ} 0 1 = cc in omega arith)
-the-atom (ASegment g) m a q e = absurd (let z : _≡_ {A = ℕ} 0 1 = cc in omega arith)
-the-atom (AnAtom b) m a q e =
-    let z : b ≡ a = cc in
-    ap (λ (x : AtomLine). x ∷ []) z
+-- what a line gives, known by an equation
+pub noted-as : (keys links ends marks : List ℕ) (c : Counts) (l m g : List AtomLine) → m ≡ g → Noted keys links ends marks c (l ++ g) → Noted keys links ends marks c (l ++ m)
+noted-as keys links ends marks c l m g e N = subst (λ (t : List AtomLine). Noted keys links ends marks c (l ++ t)) (sym e) N
 
-module _ (r : Record) (m : MaybeAtom) (q : m ≡ atomIn r) (l : List AtomLine) where
-  pub taken-none : (keys links ends marks : List ℕ) (c : Counts) → m ≡ NoAtom → Noted keys links ends marks c l
-      → OrMore (c .residues) (l ++ atomsIn r) (Noted keys links ends marks c (l ++ atomsIn r))
-  taken-none keys links ends marks c e N =
-      let z : l ++ atomsIn r ≡ l = ap (λ (t : List AtomLine). l ++ t) (no-atom r m q e) ∙ append-nil l in
-      rw z (λ _. N, λ h. absurd (omega (arith, N .residues .index .few)))
+module _ (keys links ends marks : List ℕ) (c : Counts) (l : List AtomLine) (N : Noted keys links ends marks c l) where
+  among-more : (m : List AtomLine) (i : ℕ) → i < c .residues → member (getD keys i 0) (names (l ++ m)) ≡ true
+  among-more m i h = rw (map-append (λ (a : AtomLine). a .name) l m, member-append (getD keys i 0) (names l) (names m), N .known .among i h)
 
-  pub taken-one : (keys links ends marks : List ℕ) (c : Counts) (a : AtomLine) → m ≡ TheAtom a → c .atoms ≡ length l + 1
-      → OrMore (c .residues) (l ++ (a ∷ [])) (Residues keys links ends (c .residues) (l ++ (a ∷ [])))
-      → Marks marks (c .chains) (letters l ++ (a .chain ∷ []))
-      → OrMore (c .residues) (l ++ atomsIn r) (Noted keys links ends marks c (l ++ atomsIn r))
-  taken-one keys links ends marks c a e n R M =
-      rw (the-atom r m a q e) (
-        λ h. record {
-          atoms = n ∙ sym (length-append l (a ∷ []));
-          residues = R .0 h;
-          chains = subst (Marks marks (c .chains)) (sym (letters-more l a)) M;
-        },
-        R .1,
-      )
+  -- there were more before, and there are still
+  pub noted-over : (m : List AtomLine) → c .more ≡ true → Noted keys links ends marks c (l ++ m)
+  noted-over m e = record {
+    known = record { index = N .known .index; among = among-more m; all = λ q. absurd (clash (c .more) e q) };
+    past = λ _. le-trans (N .past e) (rw (map-append (λ (a : AtomLine). a .name) l m) (order-grows (names l) (names m)));
+    whole = λ q. absurd (clash (c .more) e q);
+  }
+
+  -- a line that gives no atom
+  pub noted-none : (m : List AtomLine) → m ≡ [] → Noted keys links ends marks c (l ++ m)
+  noted-none m e = noted-as keys links ends marks c l m [] e (subst (Noted keys links ends marks c) (sym (append-nil l)) N)
+
+  module _ (a : AtomLine) where
+    -- a new residue that has no place any more; the marks are of no use then
+    pub noted-full : c .more ≡ false → (p : ℕ) → p ≡ last (isKey keys (a .name)) (c .residues) → p ≤ 0 → c .residues ≡ 16384 → (marks′ : List ℕ)
+        → Noted keys links ends marks′ (record { atoms = c .atoms; residues = c .residues; chains = c .chains; more = true }) (l ++ (a ∷ []))
+    noted-full e p ep z f marks′ = record {
+      known = record { index = N .known .index; among = among-more (a ∷ []); all = λ q. absurd (clash true refl q) };
+      past = λ _. atom-full keys links ends (c .residues) l a (N .whole e .residues) p ep z f;
+      whole = λ q. absurd (clash true refl q);
+    }
+
+    -- an atom whose residue and chain went in
+    pub noted-more : c .more ≡ false → (keys′ links′ ends′ marks′ : List ℕ) (n′ c′ : ℕ)
+        → (Residues keys links ends (c .residues) l → Residues keys′ links′ ends′ n′ (l ++ (a ∷ [])))
+        → (Marks marks (c .chains) (letters l) → Marks marks′ c′ (letters l ++ (a .chain ∷ [])))
+        → Noted keys′ links′ ends′ marks′ (record { atoms = c .atoms + 1; residues = n′; chains = c′; more = false }) (l ++ (a ∷ []))
+    noted-more e keys′ links′ ends′ marks′ n′ c′ R M =
+        let W = N .whole e in
+        noted-whole keys′ links′ ends′ marks′ _ (l ++ (a ∷ [])) refl (record {
+          atoms = ap (λ (k : ℕ). k + 1) (W .atoms) ∙ sym (length-append l (a ∷ []));
+          residues = R (W .residues);
+          chains = subst (Marks marks′ c′) (sym (letters-more l a)) (M (W .chains));
+        })
 
 -- ---- the loop: the atoms `done` are in the tables, what is left is to come
 pub record Surveying (s keys links ends marks : List ℕ) (at : ℕ) (seen : Bool) (line : ℕ) (fault : Fault) (n : ℕ) (c : Counts) : Type 0 where
@@ -75,7 +97,7 @@ pub record Surveying (s keys links ends marks : List ℕ) (at : ℕ) (seen : Boo
   pub aheads : ahead (records s) ≡ n + cond (isClean fault) (ahead (rest s at seen)) 0
 
 abbrev nothing : Counts
-nothing = record { atoms = 0; residues = 0; chains = 0 }
+nothing = record { atoms = 0; residues = 0; chains = 0; more = false }
 
 pub surveying-start : (s keys links ends marks : List ℕ) → Noted keys links ends marks nothing [] → Surveying s keys links ends marks 0 false 1 Clean 0 nothing
 surveying-start s keys links ends marks N = record {
@@ -110,20 +132,14 @@ own-clean n BadNumber = refl
 own-clean n (AnAtom a) = refl
 own-clean n (ASegment g) = refl
 
-names-append : (l m : List AtomLine) → names (l ++ m) ≡ names l ++ names m
-unfolding names
-names-append [] m = refl
-names-append (a ∷ l) m = ap (λ (t : List ℕ). a .name ∷ t) (names-append l m)
-
 module _ (s keys links ends marks : List ℕ) (at : ℕ) (seen : Bool) (line : ℕ) (fault : Fault) (n : ℕ) (c : Counts)
     (W : Surveying s keys links ends marks at seen line fault n c) where
   pub surveying-over : rest s at seen ≡ [] → Surveyed s keys links ends marks (record { counts = c; fault = fault; ahead = n })
   unfolding ownFaults ahead atoms
   surveying-over e = record {
-    more = λ h. absurd (omega (arith, W .noted .residues .index .few));
-    noted = λ _. subst (Noted keys links ends marks c) (sym (W .split ∙ ap (λ (t : List Record). W .done ++ atoms t) e ∙ append-nil (W .done))) (W .noted);
-    fault = λ _. sym (W .faults ∙ ap (λ (t : List Record). firstOf fault (ownFaults line t)) e ∙ or-clean fault);
-    ahead-is = λ _. sym (W .aheads ∙ ap (λ (t : List Record). n + cond (isClean fault) (ahead t) 0) e ∙ none (isClean fault));
+    noted = subst (Noted keys links ends marks c) (sym (W .split ∙ ap (λ (t : List Record). W .done ++ atoms t) e ∙ append-nil (W .done))) (W .noted);
+    fault = sym (W .faults ∙ ap (λ (t : List Record). firstOf fault (ownFaults line t)) e ∙ or-clean fault);
+    ahead-is = sym (W .aheads ∙ ap (λ (t : List Record). n + cond (isClean fault) (ahead t) 0) e ∙ none (isClean fault));
   }
     where
       none : (b : Bool) → n + cond b 0 0 ≡ n
@@ -131,22 +147,10 @@ module _ (s keys links ends marks : List ℕ) (at : ℕ) (seen : Bool) (line : �
       none false = omega arith
 
   module _ (r : Record) (p : ℕ) (v : Bool) (o : Onward s at seen r p v) (f : Fault) (k : ℕ) (keys′ links′ ends′ marks′ : List ℕ) (d : Counts)
-      (T : OrMore (d .residues) (W .done ++ atomsIn r) (Noted keys′ links′ ends′ marks′ d (W .done ++ atomsIn r))) where
+      (T : Noted keys′ links′ ends′ marks′ d (W .done ++ atomsIn r)) where
     next : atomsOf s ≡ (W .done ++ atomsIn r) ++ atoms (rest s p v)
     unfolding atoms
     next = W .split ∙ ap (λ (t : List Record). W .done ++ atoms t) (o .is) ∙ sym (append-assoc (W .done) (atomsIn r) (atoms (rest s p v)))
-
-    pub surveying-full : 16384 < d .residues → Surveyed s keys′ links′ ends′ marks′ (record { counts = d; fault = f; ahead = n + k })
-    surveying-full h =
-        let z : names (atomsOf s) ≡ names (W .done ++ atomsIn r) ++ names (atoms (rest s p v)) = ap names next ∙ names-append (W .done ++ atomsIn r) (atoms (rest s p v)) in
-        let g : length (order (names (W .done ++ atomsIn r))) ≤ length (order (names (atomsOf s)))
-        = rw z (order-grows (names (W .done ++ atomsIn r)) (names (atoms (rest s p v)))) in
-        record {
-          more = λ _. le-trans (T .1 h) g;
-          noted = λ q. absurd (omega arith);
-          fault = λ q. absurd (omega arith);
-          ahead-is = λ q. absurd (omega arith);
-        }
 
     ahead-on : (b : Bool) (w : Bool) → isClean fault ≡ b → f ≡ firstOf fault (ownFault line r) → isClean (ownFault line r) ≡ w → k ≡ counted f r
         → n + cond (isClean fault) (ahead (rest s at seen)) 0 ≡ n + k + cond (isClean f) (ahead (rest s p v)) 0
@@ -168,14 +172,14 @@ module _ (s keys links ends marks : List ℕ) (at : ℕ) (seen : Bool) (line : �
         go true false = omega arith
         go false w = omega arith
 
-    pub surveying-more : f ≡ firstOf fault (ownFault line r) → k ≡ counted f r → k ≤ 1 → d .chains ≤ d .atoms → d .atoms ≤ c .atoms + 1 → d .residues ≤ 16384
+    pub surveying-more : f ≡ firstOf fault (ownFault line r) → k ≡ counted f r → k ≤ 1 → d .chains ≤ d .atoms → d .atoms ≤ c .atoms + 1
         → Surveying s keys′ links′ ends′ marks′ p v (line + 1) f (n + k) d
     unfolding ownFaults
-    surveying-more ef ek lk ch at′ few = record {
+    surveying-more ef ek lk ch at′ = record {
       inside = o .within;
       done = W .done ++ atomsIn r;
       split = next;
-      noted = T .0 few;
+      noted = T;
       few-chains = ch;
       slow-atoms = omega (arith, o .more, W .slow-atoms);
       slow-line = omega (arith, o .more, W .slow-line);

@@ -1,9 +1,10 @@
 -- What the tables of a survey hold: of each residue its name, the serial of its first atom and that of its last; of each chain letter its number.
-use Prim.Native.Nat.{ℕ, _+_, _≤_, _<_}
+use Prim.Native.Nat.{ℕ, _+_, _<_}
 use mathlib.Core.List.{List}
 use mathlib.Core.Path.{_≡_}
+use mathlib.Core.Bool.{Bool, true, false}
 use lib.ListN.{length, getD}
-use Rattle.appearance.specs.Order.{order, numbered}
+use Rattle.appearance.specs.Order.{member, order, numbered}
 use Rattle.appearance.specs.Index.{Index, Keyed}
 use Rattle.pdb_records.specs.declared.AtomLine.{AtomLine}
 use Rattle.pdb_reading.specs.Reading.{names, letters, records, atomsOf}
@@ -26,19 +27,26 @@ pub record Marks (marks : List ℕ) (c : ℕ) (l : List ℕ) : Type 0 where
   pub count : c ≡ length (order l)
   pub mark : (x : ℕ) → x < 256 → getD marks x 0 ≡ numbered l x
 
--- the tables hold the residues and chains of the atoms l
-pub record Noted (keys links ends marks : List ℕ) (c : Counts) (l : List AtomLine) : Type 0 where
+-- the first n keys are among those of l; they are all of them, unless there are more
+pub record Known (keys links : List ℕ) (n : ℕ) (more : Bool) (l : List ℕ) : Type 0 where
+  pub index : Index keys links n
+  pub among : (i : ℕ) → i < n → member (getD keys i 0) l ≡ true
+  pub all : more ≡ false → Keyed keys n l
+
+-- the tables hold all residues and chains of the atoms l
+pub record Whole (keys links ends marks : List ℕ) (c : Counts) (l : List AtomLine) : Type 0 where
   pub atoms : c .atoms ≡ length l
   pub residues : Residues keys links ends (c .residues) l
   pub chains : Marks marks (c .chains) (letters l)
 
--- a table has room for 16,384 residues, a job's limit; a greater count says that the atoms l have more
-abbrev pub OrMore : ℕ → List AtomLine → Type 0 → Type 0
-OrMore n l P = (n ≤ 16384 → P) × (16384 < n → 16384 < length (order (names l)))
+-- the tables after the atoms l: they have room for 16,384 residues, a job's limit, and hold all that the atoms have, or say that there are more
+pub record Noted (keys links ends marks : List ℕ) (c : Counts) (l : List AtomLine) : Type 0 where
+  pub known : Known keys links (c .residues) (c .more) (names l)
+  pub past : c .more ≡ true → 16384 < length (order (names l))
+  pub whole : c .more ≡ false → Whole keys links ends marks c l
 
--- THE promise of a survey: the faults that lines have by themselves, and the tables
+-- THE promise of a survey: the first line that is at fault by itself, how many segments stand before it, and the tables
 pub record Surveyed (s keys links ends marks : List ℕ) (v : Overview) : Type 0 where
-  pub more : 16384 < v .counts .residues → 16384 < length (order (names (atomsOf s)))
-  pub noted : v .counts .residues ≤ 16384 → Noted keys links ends marks (v .counts) (atomsOf s)
-  pub fault : v .counts .residues ≤ 16384 → v .fault ≡ ownFaults 1 (records s)
-  pub ahead-is : v .counts .residues ≤ 16384 → v .ahead ≡ ahead (records s)
+  pub fault : v .fault ≡ ownFaults 1 (records s)
+  pub ahead-is : v .ahead ≡ ahead (records s)
+  pub noted : Noted keys links ends marks (v .counts) (atomsOf s)

@@ -1,23 +1,24 @@
 // One walk over a PDB file: the faults that lines have by themselves, the counts, and tables of its residues and chains.
 use pdb_reading::Fault;
-use pdb_reading::MaybeAtom;
 use pdb_reading::Next;
 use pdb_records::AtomLine;
 use pdb_records::Record;
 ghost use mathlib.Core.Path.{_≡_};
 ghost use mathlib.Core.List.{List, [], _∷_, _++_};
 ghost use Prim.Native.Nat.{ℕ, _+_, _<_, _≤_};
+ghost use mathlib.Core.Bool.{false};
 ghost use Rattle.appearance.specs.Index.{Index};
 ghost use Rattle.pdb_reading.specs.Reading.{atomsIn};
 ghost use Rattle.pdb_reading.specs.Faults.{firstOf};
 ghost use Rattle.pdb_survey.specs.Lines.{ownFault, counted};
-ghost use Rattle.pdb_survey.specs.Tables.{Residues, Marks, Noted, OrMore, Surveyed};
+ghost use Rattle.pdb_survey.specs.Tables.{Marks, Noted, Surveyed};
 
-// How many atoms, residues and chains; 16,385 residues stand for more than a job can have.
+// How many atoms, residues and chains. `more`: a residue came that the tables have no place for, and nothing is counted from its first atom on.
 pub struct Counts {
     pub atoms: usize,
     pub residues: usize,
     pub chains: usize,
+    pub more: bool,
 }
 
 // The counts, the first line that is at fault by itself, and how many segments stand before it.
@@ -25,31 +26,6 @@ pub struct Overview {
     pub counts: Counts,
     pub fault: Fault,
     pub ahead: usize,
-}
-
-// The number of residues with this atom's; its serial is the last of its residue so far, and the first of a new one.
-fn enter_atom(
-    keys: &mut [u64; 16384],
-    links: &mut [usize; 32768],
-    ends: &mut [u64; 32768],
-    n: usize,
-    a: AtomLine,
-) -> usize
-    requires { ⌜ Index (now keys) (now links) n ⌝ }
-    ensures { λ r. ⌜ ((l : List AtomLine) → Residues (now (keys .entry)) (now (links .entry)) (now (ends .entry)) n l → OrMore r (l ++ (a ∷ [])) (Residues (now (keys .exit)) (now (links .exit)) (now (ends .exit)) r (l ++ (a ∷ [])))) ⌝ }
-{
-    let p = appearance::find(keys, links, n, a.name);
-    if 0 < p {
-        ends[16383 + p] = a.serial;
-        return n;
-    }
-    if n == 16384 {
-        return 16385;
-    }
-    appearance::enter(keys, links, n, a.name);
-    ends[n] = a.serial;
-    ends[16384 + n] = a.serial;
-    n + 1
 }
 
 // The number of chains with this letter's.
@@ -65,8 +41,55 @@ fn mark(marks: &mut [usize; 256], letter: u8, c: usize) -> usize
     c
 }
 
-// The counts with the atom of this line, if it gives one.
+// The counts with this atom. Its serial is the last of its residue so far, and the first of a new one.
 fn take_in(
+    keys: &mut [u64; 16384],
+    links: &mut [usize; 32768],
+    ends: &mut [u64; 32768],
+    marks: &mut [usize; 256],
+    c: Counts,
+    a: AtomLine,
+) -> Counts
+    requires { ⌜ (Index (now keys) (now links) (c .residues)) × (c .chains ≤ c .atoms) × (c .atoms < 18446744073709551615) ⌝ }
+    ensures { λ d. ⌜ ((l : List AtomLine) → Noted (now (keys .entry)) (now (links .entry)) (now (ends .entry)) (now (marks .entry)) c l → Noted (now (keys .exit)) (now (links .exit)) (now (ends .exit)) (now (marks .exit)) d (l ++ (a ∷ []))) × (d .chains ≤ d .atoms) × (d .atoms ≤ c .atoms + 1) ⌝ }
+{
+    if c.more {
+        return c;
+    }
+    let n = c.residues;
+    let atoms = c.atoms + 1;
+    let p = appearance::find(keys, links, n, a.name);
+    let chains = mark(marks, a.chain, c.chains);
+    if 0 < p {
+        ends[16383 + p] = a.serial;
+        return Counts {
+            atoms,
+            residues: n,
+            chains,
+            more: false,
+        };
+    }
+    if n == 16384 {
+        return Counts {
+            atoms: c.atoms,
+            residues: n,
+            chains: c.chains,
+            more: true,
+        };
+    }
+    appearance::enter(keys, links, n, a.name);
+    ends[n] = a.serial;
+    ends[16384 + n] = a.serial;
+    Counts {
+        atoms,
+        residues: n + 1,
+        chains,
+        more: false,
+    }
+}
+
+// The counts with the atom of this line, if it gives one.
+fn note(
     keys: &mut [u64; 16384],
     links: &mut [usize; 32768],
     ends: &mut [u64; 32768],
@@ -75,18 +98,14 @@ fn take_in(
     r: Record,
 ) -> Counts
     requires { ⌜ (Index (now keys) (now links) (c .residues)) × (c .chains ≤ c .atoms) × (c .atoms < 18446744073709551615) ⌝ }
-    ensures { λ d. ⌜ ((l : List AtomLine) → Noted (now (keys .entry)) (now (links .entry)) (now (ends .entry)) (now (marks .entry)) c l → OrMore (d .residues) (l ++ atomsIn r) (Noted (now (keys .exit)) (now (links .exit)) (now (ends .exit)) (now (marks .exit)) d (l ++ atomsIn r))) × (d .chains ≤ d .atoms) × (d .atoms ≤ c .atoms + 1) ⌝ }
+    ensures { λ d. ⌜ ((l : List AtomLine) → Noted (now (keys .entry)) (now (links .entry)) (now (ends .entry)) (now (marks .entry)) c l → Noted (now (keys .exit)) (now (links .exit)) (now (ends .exit)) (now (marks .exit)) d (l ++ atomsIn r)) × (d .chains ≤ d .atoms) × (d .atoms ≤ c .atoms + 1) ⌝ }
 {
-    let m = pdb_reading::atom_in(r);
-    let MaybeAtom::TheAtom(a) = m else {
-        return c;
-    };
-    let residues = enter_atom(keys, links, ends, c.residues, a);
-    let chains = mark(marks, a.chain, c.chains);
-    Counts {
-        atoms: c.atoms + 1,
-        residues,
-        chains,
+    match r {
+        Record::AnAtom(a) => take_in(keys, links, ends, marks, c, a),
+        Record::ASegment(_) => c,
+        Record::Skipped => c,
+        Record::Short => c,
+        Record::BadNumber => c,
     }
 }
 
@@ -131,6 +150,7 @@ pub fn count_segment(f: Fault, r: Record) -> usize
     }
 }
 
+// The whole file is read, also where it has more residues than the tables: its faults are wanted then too.
 pub fn survey(
     s: &[u8],
     keys: &mut [u64; 16384],
@@ -138,7 +158,7 @@ pub fn survey(
     ends: &mut [u64; 32768],
     marks: &mut [usize; 256],
 ) -> Overview
-    requires { ⌜ Noted (now keys) (now links) (now ends) (now marks) (record { atoms = 0; residues = 0; chains = 0 }) [] ⌝ }
+    requires { ⌜ Noted (now keys) (now links) (now ends) (now marks) (record { atoms = 0; residues = 0; chains = 0; more = false }) [] ⌝ }
     ensures { λ v. ⌜ Surveyed (now (s .entry)) (now (keys .exit)) (now (links .exit)) (now (ends .exit)) (now (marks .exit)) v ⌝ }
 {
     let mut at = 0;
@@ -150,6 +170,7 @@ pub fn survey(
         atoms: 0,
         residues: 0,
         chains: 0,
+        more: false,
     };
     loop {
         let n = pdb_reading::step(s, at, seen);
@@ -164,14 +185,7 @@ pub fn survey(
             Next::Got(r, a, v) => {
                 fault = first_of(fault, own_fault(line, r));
                 ahead += count_segment(fault, r);
-                counts = take_in(keys, links, ends, marks, counts, r);
-                if 16384 < counts.residues {
-                    return Overview {
-                        counts,
-                        fault,
-                        ahead,
-                    };
-                }
+                counts = note(keys, links, ends, marks, counts, r);
                 line += 1;
                 at = a;
                 seen = v;

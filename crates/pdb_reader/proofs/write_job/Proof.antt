@@ -1,52 +1,49 @@
 use native.Mathlib.Omega.{arith}
-use Rattle.buffers.proofs.Puts.{kept}
 use mathlib.Core.Path.{_∙_}
-use Rattle.pdb_reader.proofs.Answers.{limited, size-is, written, marks-are}
-use borrow.Author.Needs.{needs}
+use Rattle.buffers.proofs.Puts.{kept, length-put}
+use Rattle.pdb_reader.proofs.Answers.{not-more, within-limits, size-is, written, marks-are}
 use Rattle.pdb_reader.proofs.write_job.Statement.{statement}
 use Rattle.pdb_reader.proofs.write_job.Tie as tie
 
 put-head-requires : tie.Need-put-head-requires
-put-head-requires c κs = let L = limited _ (c .before .before .before .pre .2) in
-    let C = c .before .before .before .pre .1 in
-    let z = size-is _ _ _ C in
-    (omega (arith, c .before .before .before .pre .3), omega (arith, C .chains, L .chains), omega (arith, C .segments-are, L .segments-are), omega (arith, C .atoms, L .atoms))
+put-head-requires c κs = let m = not-more _ _ _ (c .before .before .before .pre .1) (c .before .before .before .pre .2) in
+    let L = within-limits _ _ _ (c .before .before .before .pre .1) m (c .before .before .before .pre .2) in
+    let z = size-is _ _ _ (c .before .before .before .pre .1) m in
+    (omega (arith, c .before .before .before .pre .3), omega (arith, L .0), omega (arith, L .1), omega (arith, L .2))
 
 put-visible-requires : tie.Need-put-visible-requires
 put-visible-requires c κs = let k = kept _ _ _ (c .before .before .before .put-head .ensures) in
-    let z = size-is _ _ _ (c .before .before .before .before .before .before .before .pre .1) in
+    let z = size-is _ _ _ (c .before .before .before .before .before .before .before .pre .1) (not-more _ _ _ (c .before .before .before .before .before .before .before .pre .1) (c .before .before .before .before .before .before .before .pre .2)) in
     omega (arith, c .before .before .before .before .before .before .before .pre .3)
 
-add-write-segments : tie.Need-add-write-segments
-add-write-segments c = search needs
+add-first : tie.Need-add-first
+add-first c = let m = not-more _ _ _ (c .before .before .before .before .before .before .before .before .before .before .pre .1) (c .before .before .before .before .before .before .before .before .before .before .pre .2) in
+    let L = within-limits _ _ _ (c .before .before .before .before .before .before .before .before .before .before .pre .1) m (c .before .before .before .before .before .before .before .before .before .before .pre .2) in
+    omega (arith, L .0)
 
-write-segments-requires : tie.Need-write-segments-requires
-write-segments-requires c κs = let k = kept _ _ _ (c .before .before .before .put-visible .ensures) in
+mul-write-records : tie.Need-mul-write-records
+mul-write-records c = let m = not-more _ _ _ (c .before .before .before .before .before .before .before .before .before .before .before .pre .1) (c .before .before .before .before .before .before .before .before .before .before .before .pre .2) in
+    let L = within-limits _ _ _ (c .before .before .before .before .before .before .before .before .before .before .before .pre .1) m (c .before .before .before .before .before .before .before .before .before .before .before .pre .2) in
+    omega (arith, L .1)
+
+add-write-records : tie.Need-add-write-records
+add-write-records c = let m = not-more _ _ _ (c .before .before .before .before .before .before .before .before .before .before .before .pre .1) (c .before .before .before .before .before .before .before .before .before .before .before .pre .2) in
+    let L = within-limits _ _ _ (c .before .before .before .before .before .before .before .before .before .before .before .pre .1) m (c .before .before .before .before .before .before .before .before .before .before .before .pre .2) in
+    omega (arith, L .0, L .1)
+
+write-records-requires : tie.Need-write-records-requires
+write-records-requires c κs = let m = not-more _ _ _ (c .before .before .before .before .before .before .before .before .before .before .before .pre .1) (c .before .before .before .before .before .before .before .before .before .before .before .pre .2) in
+    let k = kept _ _ _ (c .before .before .before .put-visible .ensures) in
     let j = kept _ _ _ (c .before .before .before .before .before .before .before .put-head .ensures) in
-    let z = size-is _ _ _ (c .before .before .before .before .before .before .before .before .before .before .before .pre .1) in
-    (c .before .before .before .before .before .before .before .before .before .before .before .pre .0 .residues, c .before .before .before .before .before .before .before .before .before .before .before .pre .1 .segments-are, omega (arith, c .before .before .before .before .before .before .before .before .before .before .before .pre .3))
-
-add-write-atoms : tie.Need-add-write-atoms
-add-write-atoms c = search needs
-
-mul-write-atoms : tie.Need-mul-write-atoms
-mul-write-atoms c = search needs
-
-add-write-atoms-2 : tie.Need-add-write-atoms-2
-add-write-atoms-2 c = search needs
-
-write-atoms-requires : tie.Need-write-atoms-requires
-write-atoms-requires c κs = let l = kept _ _ _ (c .before .before .before .write-segments .ensures) in
-    let k = kept _ _ _ (c .before .before .before .before .before .before .before .put-visible .ensures) in
-    let j = kept _ _ _ (c .before .before .before .before .before .before .before .before .before .before .before .put-head .ensures) in
-    let z = size-is _ _ _ (c .before .before .before .before .before .before .before .before .before .before .before .before .before .before .before .pre .1) in
-    (c .before .before .before .before .before .before .before .before .before .before .before .before .before .before .before .pre .0 .residues .index, c .before .before .before .before .before .before .before .before .before .before .before .before .before .before .before .pre .0 .residues .keyed, marks-are _ _ _ (c .before .before .before .before .before .before .before .before .before .before .before .before .before .before .before .pre .1) _ (c .before .before .before .before .before .before .before .before .before .before .before .before .before .before .before .pre .0 .chains), c .before .before .before .before .before .before .before .before .before .before .before .before .before .before .before .pre .1 .atoms, omega (arith, c .before .before .before .before .before .before .before .before .before .before .before .before .before .before .before .pre .3))
+    let z = size-is _ _ _ (c .before .before .before .before .before .before .before .before .before .before .before .pre .1) m in
+    let W = c .before .before .before .before .before .before .before .before .before .before .before .pre .0 .whole m in
+    (W .residues, marks-are _ _ _ (c .before .before .before .before .before .before .before .before .before .before .before .pre .1) m _ (W .chains), omega (arith, c .before .before .before .before .before .before .before .before .before .before .before .pre .1 .segments-are), omega (arith, c .before .before .before .before .before .before .before .before .before .before .before .pre .3, c .before .before .before .before .before .before .before .before .before .before .before .pre .1 .atoms m))
 
 same-length : tie.Need-same-length
-same-length c = kept _ _ _ (c .before .before .write-atoms .ensures) ∙ kept _ _ _ (c .before .before .before .before .before .before .write-segments .ensures) ∙ kept _ _ _ (c .before .before .before .before .before .before .before .before .before .before .put-visible .ensures) ∙ kept _ _ _ (c .before .before .before .before .before .before .before .before .before .before .before .before .before .before .put-head .ensures)
+same-length c = kept _ _ _ (c .before .before .write-records .ensures) ∙ length-put _ _ _ ∙ kept _ _ _ (c .before .before .before .before .before .before .put-visible .ensures) ∙ kept _ _ _ (c .before .before .before .before .before .before .before .before .before .before .put-head .ensures)
 
 returns : tie.Need-returns
-returns c = written _ _ _ (c .before .before .before .before .before .before .before .before .before .before .before .before .before .before .before .before .before .before .pre .1) _ _ _ _ _ (c .before .before .before .before .before .before .before .before .before .before .before .before .before .before .put-head .ensures) (c .before .before .before .before .before .before .before .before .before .before .put-visible .ensures) (c .before .before .before .before .before .before .write-segments .ensures) (c .before .before .write-atoms .ensures)
+returns c = written _ _ _ (c .before .before .before .before .before .before .before .before .before .before .before .before .before .before .pre .1) (not-more _ _ _ (c .before .before .before .before .before .before .before .before .before .before .before .before .before .before .pre .1) (c .before .before .before .before .before .before .before .before .before .before .before .before .before .before .pre .2)) _ _ _ _ (c .before .before .before .before .before .before .before .before .before .before .put-head .ensures) (c .before .before .before .before .before .before .put-visible .ensures) (c .before .before .write-records .ensures)
 
 pub write-job-spec : {M : Type 1} → statement M
 write-job-spec =
@@ -54,11 +51,9 @@ write-job-spec =
     (tie.spec
     put-head-requires
     put-visible-requires
-    add-write-segments
-    write-segments-requires
-    add-write-atoms
-    mul-write-atoms
-    add-write-atoms-2
-    write-atoms-requires
+    add-first
+    mul-write-records
+    add-write-records
+    write-records-requires
     same-length
     returns)

@@ -31,23 +31,8 @@ returns-2 : tie.Need-returns-2
 unfolding atomOf
 returns-2 c = simp (le-ltb _ _ (c .before .before .before .before .if1 .left), sym (c .before .before .serial-in .ensures) ∙ c .enum-told .given .1)
 
-sub-residue-in : tie.Need-sub-residue-in
-sub-residue-in c = search needs
-
-part-residue-in-start : tie.Need-part-residue-in-start
-part-residue-in-start c = search needs
-
-part-residue-in-end : tie.Need-part-residue-in-end
-part-residue-in-end c = search needs
-
-shared-slice-read-residue-in : tie.Need-shared-slice-read-residue-in
-shared-slice-read-residue-in c = search needs
-
-shared-slice-read-residue-in-2 : tie.Need-shared-slice-read-residue-in-2
-shared-slice-read-residue-in-2 c = search needs
-
-residue-in-requires : tie.Need-residue-in-requires
-residue-in-requires c κs = search needs
+residue-at-requires : tie.Need-residue-at-requires
+residue-at-requires c κs = search needs
 
 enum-known-n : tie.Need-enum-known-n
 enum-known-n c = search needs
@@ -57,7 +42,7 @@ enum-told-2 c = search needs
 
 returns-3 : tie.Need-returns-3
 unfolding atomOf
-returns-3 c = simp (le-ltb _ _ (c .before .before .before .before .before .before .before .before .before .before .before .if1 .left), sym (c .before .before .before .before .before .before .before .before .before .serial-in .ensures) ∙ c .before .before .before .before .before .before .before .s .given .1, sym (c .before .before .residue-in .ensures) ∙ c .enum-told2 .given .1)
+returns-3 c = simp (le-ltb _ _ (c .before .before .before .before .before .before .before .before .if1 .left), sym (c .before .before .before .before .before .before .serial-in .ensures) ∙ c .before .before .before .before .s .given .1, sym (c .before .before .residue-at .ensures) ∙ c .enum-told2 .given .1)
 
 sub-coordinate-in : tie.Need-sub-coordinate-in
 sub-coordinate-in c = search needs
@@ -79,7 +64,7 @@ enum-told-3 c = search needs
 
 returns-4 : tie.Need-returns-4
 unfolding atomOf
-returns-4 c = simp (le-ltb _ _ (c .before .before .before .before .before .before .before .before .before .before .before .before .before .before .before .before .if1 .left), sym (c .before .before .before .before .before .before .before .before .before .before .before .before .before .before .serial-in .ensures) ∙ c .before .before .before .before .before .before .before .before .before .before .before .before .s .given .1, sym (c .before .before .before .before .before .before .before .residue-in .ensures) ∙ c .before .before .before .before .before .n .given .1, sym (c .before .before .coordinate-in .ensures) ∙ c .enum-told3 .given .1)
+returns-4 c = simp (le-ltb _ _ (c .before .before .before .before .before .before .before .before .before .before .before .before .before .if1 .left), sym (c .before .before .before .before .before .before .before .before .before .before .before .serial-in .ensures) ∙ c .before .before .before .before .before .before .before .before .before .s .given .1, sym (c .before .before .before .before .before .before .before .residue-at .ensures) ∙ c .before .before .before .before .before .n .given .1, sym (c .before .before .coordinate-in .ensures) ∙ c .enum-told3 .given .1)
 
 sub-coordinate-in-2 : tie.Need-sub-coordinate-in-2
 sub-coordinate-in-2 c = search needs
@@ -101,7 +86,7 @@ enum-told-4 c = search needs
 
 returns-5 : tie.Need-returns-5
 unfolding atomOf
-returns-5 c = simp (le-ltb _ _ (c .before .before .before .before .before .before .before .before .before .before .before .before .before .before .before .before .before .before .before .before .before .if1 .left), sym (c .before .before .before .before .before .before .before .before .before .before .before .before .before .before .before .before .before .before .before .serial-in .ensures) ∙ c .before .before .before .before .before .before .before .before .before .before .before .before .before .before .before .before .before .s .given .1, sym (c .before .before .before .before .before .before .before .before .before .before .before .before .residue-in .ensures) ∙ c .before .before .before .before .before .before .before .before .before .before .n .given .1, sym (c .before .before .before .before .before .before .before .coordinate-in .ensures) ∙ c .before .before .before .before .before .fx .given .1, sym (c .before .before .coordinate-in2 .ensures) ∙ c .enum-told4 .given .1)
+returns-5 c = simp (le-ltb _ _ (c .before .before .before .before .before .before .before .before .before .before .before .before .before .before .before .before .before .before .if1 .left), sym (c .before .before .before .before .before .before .before .before .before .before .before .before .before .before .before .before .serial-in .ensures) ∙ c .before .before .before .before .before .before .before .before .before .before .before .before .before .before .s .given .1, sym (c .before .before .before .before .before .before .before .before .before .before .before .before .residue-at .ensures) ∙ c .before .before .before .before .before .before .before .before .before .before .n .given .1, sym (c .before .before .before .before .before .before .before .coordinate-in .ensures) ∙ c .before .before .before .before .before .fx .given .1, sym (c .before .before .coordinate-in2 .ensures) ∙ c .enum-told4 .given .1)
 
 sub-coordinate-in-3 : tie.Need-sub-coordinate-in-3
 sub-coordinate-in-3 c = search needs
@@ -123,17 +108,17 @@ enum-told-5 c = search needs
 
 returns-6 : tie.Need-returns-6
 unfolding atomOf
-returns-6 c = simp (le-ltb _ _ (c .before .before .before .before .before .before .before .before .before .before .before .before .before .before .before .before .before .before .before .before .before .before .before .before .before .before .if1 .left), sym (c .before .before .before .before .before .before .before .before .before .before .before .before .before .before .before .before .before .before .before .before .before .before .before .before .serial-in .ensures) ∙ c .before .before .before .before .before .before .before .before .before .before .before .before .before .before .before .before .before .before .before .before .before .before .s .given .1, sym (c .before .before .before .before .before .before .before .before .before .before .before .before .before .before .before .before .before .residue-in .ensures) ∙ c .before .before .before .before .before .before .before .before .before .before .before .before .before .before .before .n .given .1, sym (c .before .before .before .before .before .before .before .before .before .before .before .before .coordinate-in .ensures) ∙ c .before .before .before .before .before .before .before .before .before .before .fx .given .1, sym (c .before .before .before .before .before .before .before .coordinate-in2 .ensures) ∙ c .before .before .before .before .before .fy .given .1, sym (c .before .before .coordinate-in3 .ensures) ∙ c .enum-told5 .given .1)
+returns-6 c = simp (le-ltb _ _ (c .before .before .before .before .before .before .before .before .before .before .before .before .before .before .before .before .before .before .before .before .before .before .before .if1 .left), sym (c .before .before .before .before .before .before .before .before .before .before .before .before .before .before .before .before .before .before .before .before .before .serial-in .ensures) ∙ c .before .before .before .before .before .before .before .before .before .before .before .before .before .before .before .before .before .before .before .s .given .1, sym (c .before .before .before .before .before .before .before .before .before .before .before .before .before .before .before .before .before .residue-at .ensures) ∙ c .before .before .before .before .before .before .before .before .before .before .before .before .before .before .before .n .given .1, sym (c .before .before .before .before .before .before .before .before .before .before .before .before .coordinate-in .ensures) ∙ c .before .before .before .before .before .before .before .before .before .before .fx .given .1, sym (c .before .before .before .before .before .before .before .coordinate-in2 .ensures) ∙ c .before .before .before .before .before .fy .given .1, sym (c .before .before .coordinate-in3 .ensures) ∙ c .enum-told5 .given .1)
 
 role-of-requires : tie.Need-role-of-requires
 role-of-requires c κs = search needs
 
-shared-slice-read-t21 : tie.Need-shared-slice-read-t21
-shared-slice-read-t21 c = search needs
+shared-slice-read-t28 : tie.Need-shared-slice-read-t28
+shared-slice-read-t28 c = search needs
 
 returns-7 : tie.Need-returns-7
 unfolding atomOf
-returns-7 c = simp (le-ltb _ _ (c .before .before .before .before .before .before .before .before .before .before .before .before .before .before .before .before .before .before .before .before .before .before .before .before .before .before .before .before .before .if1 .left), sym (c .before .before .before .before .before .before .before .before .before .before .before .before .before .before .before .before .before .before .before .before .before .before .before .before .before .before .before .serial-in .ensures) ∙ c .before .before .before .before .before .before .before .before .before .before .before .before .before .before .before .before .before .before .before .before .before .before .before .before .before .s .given .1, sym (c .before .before .before .before .before .before .before .before .before .before .before .before .before .before .before .before .before .before .before .before .residue-in .ensures) ∙ c .before .before .before .before .before .before .before .before .before .before .before .before .before .before .before .before .before .before .n .given .1, sym (c .before .before .before .before .before .before .before .before .before .before .before .before .before .before .before .coordinate-in .ensures) ∙ c .before .before .before .before .before .before .before .before .before .before .before .before .before .fx .given .1, sym (c .before .before .before .before .before .before .before .before .before .before .coordinate-in2 .ensures) ∙ c .before .before .before .before .before .before .before .before .fy .given .1, sym (c .before .before .before .before .before .coordinate-in3 .ensures) ∙ c .before .before .before .fz .given .1, ← c .before .role-of .ensures)
+returns-7 c = simp (le-ltb _ _ (c .before .before .before .before .before .before .before .before .before .before .before .before .before .before .before .before .before .before .before .before .before .before .before .before .before .before .if1 .left), sym (c .before .before .before .before .before .before .before .before .before .before .before .before .before .before .before .before .before .before .before .before .before .before .before .before .serial-in .ensures) ∙ c .before .before .before .before .before .before .before .before .before .before .before .before .before .before .before .before .before .before .before .before .before .before .s .given .1, sym (c .before .before .before .before .before .before .before .before .before .before .before .before .before .before .before .before .before .before .before .before .residue-at .ensures) ∙ c .before .before .before .before .before .before .before .before .before .before .before .before .before .before .before .before .before .before .n .given .1, sym (c .before .before .before .before .before .before .before .before .before .before .before .before .before .before .before .coordinate-in .ensures) ∙ c .before .before .before .before .before .before .before .before .before .before .before .before .before .fx .given .1, sym (c .before .before .before .before .before .before .before .before .before .before .coordinate-in2 .ensures) ∙ c .before .before .before .before .before .before .before .before .fy .given .1, sym (c .before .before .before .before .before .coordinate-in3 .ensures) ∙ c .before .before .before .fz .given .1, ← c .before .role-of .ensures)
 
 pub atom-of-spec : {M : Type 1} → statement M
 atom-of-spec =
@@ -147,12 +132,7 @@ atom-of-spec =
     enum-known-s
     enum-told
     returns-2
-    sub-residue-in
-    part-residue-in-start
-    part-residue-in-end
-    shared-slice-read-residue-in
-    shared-slice-read-residue-in-2
-    residue-in-requires
+    residue-at-requires
     enum-known-n
     enum-told-2
     returns-3
@@ -178,5 +158,5 @@ atom-of-spec =
     enum-told-5
     returns-6
     role-of-requires
-    shared-slice-read-t21
+    shared-slice-read-t28
     returns-7)

@@ -12,14 +12,14 @@ atom-of-requires c κs = search needs
 enum-told-2 : tie.Need-enum-told-2
 enum-told-2 c = search needs
 
-helix-of-requires : tie.Need-helix-of-requires
-helix-of-requires c κs = search needs
+segment-of-requires : tie.Need-segment-of-requires
+segment-of-requires c κs = search needs
 
 enum-told-3 : tie.Need-enum-told-3
 enum-told-3 c = search needs
 
-sheet-of-requires : tie.Need-sheet-of-requires
-sheet-of-requires c κs = search needs
+segment-of-requires-2 : tie.Need-segment-of-requires-2
+segment-of-requires-2 c κs = search needs
 
 enum-told-4 : tie.Need-enum-told-4
 enum-told-4 c = search needs
@@ -36,11 +36,11 @@ returns c = simp (c .before .enum-told .given .1, ← c .atom-of .ensures)
 
 returns-2 : tie.Need-returns-2
 unfolding ofKind
-returns-2 c = simp (c .before .enum-told2 .given .1, ← c .helix-of .ensures)
+returns-2 c = simp (c .before .enum-told2 .given .1, ← c .segment-of .ensures)
 
 returns-3 : tie.Need-returns-3
 unfolding ofKind
-returns-3 c = simp (c .before .enum-told3 .given .1, ← c .sheet-of .ensures)
+returns-3 c = simp (c .before .enum-told3 .given .1, ← c .segment-of2 .ensures)
 
 returns-4 : tie.Need-returns-4
 unfolding ofKind
@@ -61,9 +61,9 @@ record-of-spec =
     enum-told
     atom-of-requires
     enum-told-2
-    helix-of-requires
+    segment-of-requires
     enum-told-3
-    sheet-of-requires
+    segment-of-requires-2
     enum-told-4
     enum-told-5
     enum-told-6

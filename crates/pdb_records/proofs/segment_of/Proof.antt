@@ -1,29 +1,55 @@
+use mathlib.Core.Path.{sym, _∙_}
+use borrow.Author.Tests.{lt-ltb, le-ltb}
+use Rattle.pdb_records.specs.Records.{segmentOf}
 use borrow.Author.Needs.{needs}
 use Rattle.pdb_records.proofs.segment_of.Statement.{statement}
 use Rattle.pdb_records.proofs.segment_of.Tie as tie
 
-enum-told : tie.Need-enum-told
-enum-told c = search needs
+returns : tie.Need-returns
+unfolding segmentOf
+returns c = simp (lt-ltb _ _ (c .if1 .taken))
+
+residue-at-requires : tie.Need-residue-at-requires
+residue-at-requires c κs = search needs
 
 enum-known-a : tie.Need-enum-known-a
 enum-known-a c = search needs
 
-enum-told-2 : tie.Need-enum-told-2
-enum-told-2 c = search needs
+enum-told : tie.Need-enum-told
+enum-told c = search needs
+
+returns-2 : tie.Need-returns-2
+unfolding segmentOf
+returns-2 c = simp (le-ltb _ _ (c .before .before .before .if1 .left), sym (c .before .before .residue-at .ensures) ∙ c .enum-told .given .1)
+
+residue-at-requires-2 : tie.Need-residue-at-requires-2
+residue-at-requires-2 c κs = search needs
 
 enum-known-b : tie.Need-enum-known-b
 enum-known-b c = search needs
 
-returns : tie.Need-returns
-returns c = search needs
-
-returns-2 : tie.Need-returns-2
-returns-2 c = search needs
+enum-told-2 : tie.Need-enum-told-2
+enum-told-2 c = search needs
 
 returns-3 : tie.Need-returns-3
-returns-3 c = simp (c .before .before .before .before .a .given .1, c .before .b .given .1)
+unfolding segmentOf
+returns-3 c = simp (le-ltb _ _ (c .before .before .before .before .before .before .before .if1 .left), sym (c .before .before .before .before .before .before .residue-at .ensures) ∙ c .before .before .before .before .a .given .1, sym (c .before .before .residue-at2 .ensures) ∙ c .enum-told2 .given .1)
+
+returns-4 : tie.Need-returns-4
+unfolding segmentOf
+returns-4 c = simp (le-ltb _ _ (c .before .before .before .before .before .before .before .before .if1 .left), sym (c .before .before .before .before .before .before .before .residue-at .ensures) ∙ c .before .before .before .before .before .a .given .1, sym (c .before .before .before .residue-at2 .ensures) ∙ c .before .b .given .1)
 
 pub segment-of-spec : {M : Type 1} → statement M
 segment-of-spec =
     tie.close
-    (tie.spec enum-told enum-known-a enum-told-2 enum-known-b returns returns-2 returns-3)
+    (tie.spec
+    returns
+    residue-at-requires
+    enum-known-a
+    enum-told
+    returns-2
+    residue-at-requires-2
+    enum-known-b
+    enum-told-2
+    returns-3
+    returns-4)

@@ -1,13 +1,14 @@
+use borrow.Author.Needs.{needs}
 use Prim.Native.Nat.{_-_}
 use lib.ListN.{length}
-use borrow.Author.Needs.{needs}
 use native.Mathlib.Omega.{arith}
-use Rattle.pdb_reading.proofs.Laws.{stepped-done, stepped-got}
-use Rattle.pdb_survey.proofs.Walk.{Surveying, surveying-start, surveying-over, surveying-full, surveying-more}
 use mathlib.Core.Path.{_∙_, ap}
 use Rattle.pdb_reading.specs.Faults.{firstOf}
+use Rattle.pdb_reading.proofs.Laws.{stepped-done, stepped-got}
+use Rattle.pdb_survey.proofs.Walk.{Surveying, surveying-start, surveying-over, surveying-more}
 use Rattle.pdb_survey.proofs.survey.Statement.{statement}
 use Rattle.pdb_survey.proofs.survey.Tie as tie
+use Rattle.pdb_survey.proofs.survey.Lts as lts
 
 abbrev Inv-loop : tie.InvT-loop
 Inv-loop s keys₀ links₀ ends₀ marks₀ at₀ seen₀ line₀ fault₀ ahead₀ counts₀ keys links ends marks at seen line fault ahead counts = Surveying s keys links ends marks at seen line fault ahead counts
@@ -43,26 +44,22 @@ add-ahead : tie.Need-add-ahead Inv-loop μ-loop
 add-ahead c = let o = stepped-got _ _ _ _ _ _ _ (c .before .before .before .before .before .before .step .ensures) (c .before .before .before .before .n .given .1) in
     omega (arith, o .more, o .within, c .before .before .before .before .before .before .before .loop .inv .slow-ahead, c .count-segment .ensures .1)
 
-take-in-requires : tie.Need-take-in-requires Inv-loop μ-loop
-take-in-requires c κs = let o = stepped-got _ _ _ _ _ _ _ (c .before .before .before .before .before .before .before .before .before .before .step .ensures) (c .before .before .before .before .before .before .before .before .n .given .1) in
-    (c .before .before .before .before .before .before .before .before .before .before .before .loop .inv .noted .residues .index, c .before .before .before .before .before .before .before .before .before .before .before .loop .inv .few-chains, omega (arith, o .more, o .within, c .before .before .before .before .before .before .before .before .before .before .before .loop .inv .slow-atoms))
-
-returns-2 : tie.Need-returns-2 Inv-loop μ-loop
-returns-2 c = let o = stepped-got _ _ _ _ _ _ _ (c .before .before .before .before .before .before .before .before .before .before .before .before .before .step .ensures) (c .before .before .before .before .before .before .before .before .before .before .before .n .given .1) in
-    surveying-full _ _ _ _ _ _ _ _ _ _ _ (c .before .before .before .before .before .before .before .before .before .before .before .before .before .before .loop .inv) _ _ _ o _ _ _ _ _ _ _ (c .before .before .take-in .ensures .0 _ (c .before .before .before .before .before .before .before .before .before .before .before .before .before .before .loop .inv .noted)) (c .if1 .taken)
+note-requires : tie.Need-note-requires Inv-loop μ-loop
+note-requires c κs = let o = stepped-got _ _ _ _ _ _ _ (c .before .before .before .before .before .before .before .before .before .before .step .ensures) (c .before .before .before .before .before .before .before .before .n .given .1) in
+    (c .before .before .before .before .before .before .before .before .before .before .before .loop .inv .noted .known .index, c .before .before .before .before .before .before .before .before .before .before .before .loop .inv .few-chains, omega (arith, o .more, o .within, c .before .before .before .before .before .before .before .before .before .before .before .loop .inv .slow-atoms))
 
 add-line : tie.Need-add-line Inv-loop μ-loop
-add-line c = let o = stepped-got _ _ _ _ _ _ _ (c .before .before .before .before .before .before .before .before .before .before .before .before .before .step .ensures) (c .before .before .before .before .before .before .before .before .before .before .before .n .given .1) in
-    omega (arith, o .more, o .within, c .before .before .before .before .before .before .before .before .before .before .before .before .before .before .loop .inv .slow-line)
+add-line c = let o = stepped-got _ _ _ _ _ _ _ (c .before .before .before .before .before .before .before .before .before .before .before .step .ensures) (c .before .before .before .before .before .before .before .before .before .n .given .1) in
+    omega (arith, o .more, o .within, c .before .before .before .before .before .before .before .before .before .before .before .before .loop .inv .slow-line)
 
 loop-less : tie.Need-loop-less Inv-loop μ-loop
-loop-less c = let o = stepped-got _ _ _ _ _ _ _ (c .before .before .before .before .before .before .before .before .before .before .before .before .before .step .ensures) (c .before .before .before .before .before .before .before .before .before .before .before .n .given .1) in
+loop-less c = let o = stepped-got _ _ _ _ _ _ _ (c .before .before .before .before .before .before .before .before .before .before .before .step .ensures) (c .before .before .before .before .before .before .before .before .before .n .given .1) in
     omega (arith, o .more, o .within)
 
 loop-again : tie.Need-loop-again Inv-loop μ-loop
-loop-again c = let o = stepped-got _ _ _ _ _ _ _ (c .before .before .before .before .before .before .before .before .before .before .before .before .before .step .ensures) (c .before .before .before .before .before .before .before .before .before .before .before .n .given .1) in
-    surveying-more _ _ _ _ _ _ _ _ _ _ _ (c .before .before .before .before .before .before .before .before .before .before .before .before .before .before .loop .inv) _ _ _ o _ _ _ _ _ _ _ (c .before .before .take-in .ensures .0 _ (c .before .before .before .before .before .before .before .before .before .before .before .before .before .before .loop .inv .noted))
-    (c .before .before .before .before .before .before .before .before .first-of .ensures ∙ ap (firstOf (c .before .before .before .before .before .before .before .before .before .before .before .before .before .before .loop .fault)) (c .before .before .before .before .before .before .before .before .before .own-fault .ensures)) (c .before .before .before .before .before .before .before .count-segment .ensures .0) (c .before .before .before .before .before .before .before .count-segment .ensures .1) (c .before .before .take-in .ensures .1) (c .before .before .take-in .ensures .2) (c .if1 .left)
+loop-again c = let o = stepped-got _ _ _ _ _ _ _ (c .before .before .before .before .before .before .before .before .before .before .before .step .ensures) (c .before .before .before .before .before .before .before .before .before .n .given .1) in
+    surveying-more _ _ _ _ _ _ _ _ _ _ _ (c .before .before .before .before .before .before .before .before .before .before .before .before .loop .inv) _ _ _ o _ _ _ _ _ _ _ (c .note .ensures .0 _ (c .before .before .before .before .before .before .before .before .before .before .before .before .loop .inv .noted))
+    (c .before .before .before .before .before .before .first-of .ensures ∙ ap (firstOf (c .before .before .before .before .before .before .before .before .before .before .before .before .loop .fault)) (c .before .before .before .before .before .before .before .own-fault .ensures)) (c .before .before .before .before .before .count-segment .ensures .0) (c .before .before .before .before .before .count-segment .ensures .1) (c .note .ensures .1) (c .note .ensures .2)
 
 pub survey-spec : {M : Type 1} → statement M
 survey-spec =
@@ -79,8 +76,7 @@ survey-spec =
     first-of-requires
     count-segment-requires
     add-ahead
-    take-in-requires
-    returns-2
+    note-requires
     add-line
     loop-less
     loop-again)

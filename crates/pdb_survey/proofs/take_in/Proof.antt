@@ -1,44 +1,79 @@
 use native.Mathlib.Omega.{arith}
-use mathlib.Core.Path.{ap}
-use Prim.Native.Nat.{ℕ, _+_}
-use Rattle.pdb_survey.proofs.Walk.{taken-none, taken-one}
+use Rattle.pdb_survey.proofs.Tables.{atom-seen, atom-new}
+use Rattle.pdb_survey.proofs.Walk.{noted-over, noted-full, noted-more}
 use borrow.Author.Needs.{needs}
 use Rattle.pdb_survey.proofs.take_in.Statement.{statement}
 use Rattle.pdb_survey.proofs.take_in.Tie as tie
 
-atom-in-requires : tie.Need-atom-in-requires
-atom-in-requires c κs = search needs
-
-enum-known-m : tie.Need-enum-known-m
-enum-known-m c = search needs
-
-enum-told : tie.Need-enum-told
-enum-told c = search needs
-
 returns : tie.Need-returns
-returns c = (λ l N. taken-none (c .before .before .before .args .r) _ (c .before .before .atom-in .ensures) l _ _ _ _ _ (c .enum-told .given .1) N, c .before .before .before .pre .1, omega arith)
+returns c = (λ l N. noted-over _ _ _ _ _ l N _ (c .if1 .taken), c .before .pre .1, omega arith)
 
-enter-atom-requires : tie.Need-enter-atom-requires
-enter-atom-requires c κs = search needs
+add-atoms : tie.Need-add-atoms
+add-atoms c = search needs
+
+find-requires : tie.Need-find-requires
+find-requires c κs = search needs
 
 mark-requires : tie.Need-mark-requires
 mark-requires c κs = search needs
 
-add-t15 : tie.Need-add-t15
-add-t15 c = search needs
+add-ends : tie.Need-add-ends
+add-ends c = omega (arith, c .before .before .before .find .ensures .1, c .before .before .before .before .before .before .before .before .pre .0 .few)
+
+mul-ends : tie.Need-mul-ends
+mul-ends c = omega (arith, c .before .before .before .find .ensures .1, c .before .before .before .before .before .before .before .before .pre .0 .few)
+
+element-write-ends : tie.Need-element-write-ends
+element-write-ends c = omega (arith, c .before .before .before .find .ensures .1, c .before .before .before .before .before .before .before .before .pre .0 .few)
 
 returns-2 : tie.Need-returns-2
-returns-2 c = (λ l N. taken-one (c .before .before .before .before .before .before .before .before .before .before .before .args .r) _ (c .before .before .before .before .before .before .before .before .before .before .atom-in .ensures) l _ _ _ _ _ _ (c .before .before .before .before .before .before .before .before .m .given .1) (ap (λ (k : ℕ). k + 1) (N .atoms)) (c .before .before .before .enter-atom .ensures l (N .residues)) (c .before .mark .ensures .0 _ (N .chains)), omega (arith, c .before .mark .ensures .1, c .before .before .before .before .before .before .before .before .before .before .before .pre .1), omega arith)
+returns-2 c = (λ l N. noted-more _ _ _ _ _ l N (c .before .before .before .before .before .before .before .before .args .a) (c .before .before .before .before .before .before .before .if1 .left) _ _ _ _ _ _ (λ R. atom-seen _ _ _ _ l (c .before .before .before .before .before .before .before .before .args .a) R _ (c .before .before .before .find .ensures .0) (c .if2 .taken) (c .before .before .before .find .ensures .1)) (λ M. c .before .mark .ensures .0 _ M), omega (arith, c .before .mark .ensures .1, c .before .before .before .before .before .before .before .before .pre .1), omega arith)
+
+returns-3 : tie.Need-returns-3
+returns-3 c = (λ l N. noted-full _ _ _ _ _ l N (c .before .before .before .before .before .before .before .before .before .args .a) (c .before .before .before .before .before .before .before .before .if1 .left) _ (c .before .before .before .before .find .ensures .0) (c .before .if2 .left) (c .if3 .taken) _, c .before .before .before .before .before .before .before .before .before .pre .1, omega arith)
+
+enter-requires : tie.Need-enter-requires
+enter-requires c κs = (c .before .before .before .before .before .before .before .before .before .before .before .pre .0, omega (arith, c .before .before .if3 .left, c .before .before .before .before .before .before .before .before .before .before .before .pre .0 .few))
+
+mul-ends-2 : tie.Need-mul-ends-2
+mul-ends-2 c = search needs
+
+element-write-ends-2 : tie.Need-element-write-ends-2
+element-write-ends-2 c = search needs
+
+add-ends-2 : tie.Need-add-ends-2
+add-ends-2 c = search needs
+
+mul-ends-3 : tie.Need-mul-ends-3
+mul-ends-3 c = search needs
+
+element-write-ends-3 : tie.Need-element-write-ends-3
+element-write-ends-3 c = search needs
+
+add-t22 : tie.Need-add-t22
+add-t22 c = search needs
+
+returns-4 : tie.Need-returns-4
+returns-4 c = (λ l N. noted-more _ _ _ _ _ l N (c .before .before .before .before .before .before .before .before .before .before .before .before .args .a) (c .before .before .before .before .before .before .before .before .before .before .before .if1 .left) _ _ _ _ _ _ (λ R. atom-new _ _ _ _ l (c .before .before .before .before .before .before .before .before .before .before .before .before .args .a) R _ (c .before .before .before .before .before .before .before .find .ensures .0) (c .before .before .before .before .if2 .left) (omega (arith, c .before .before .before .if3 .left, c .before .before .before .before .before .before .before .before .before .before .before .before .pre .0 .few)) _ _ (c .enter .ensures .0) (c .enter .ensures .1)) (λ M. c .before .before .before .before .before .mark .ensures .0 _ M), omega (arith, c .before .before .before .before .before .mark .ensures .1, c .before .before .before .before .before .before .before .before .before .before .before .before .pre .1), omega arith)
 
 pub take-in-spec : {M : Type 1} → statement M
 take-in-spec =
     tie.close
     (tie.spec
-    atom-in-requires
-    enum-known-m
-    enum-told
     returns
-    enter-atom-requires
+    add-atoms
+    find-requires
     mark-requires
-    add-t15
-    returns-2)
+    add-ends
+    mul-ends
+    element-write-ends
+    returns-2
+    returns-3
+    enter-requires
+    mul-ends-2
+    element-write-ends-2
+    add-ends-2
+    mul-ends-3
+    element-write-ends-3
+    add-t22
+    returns-4)

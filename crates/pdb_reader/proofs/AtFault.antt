@@ -1,0 +1,97 @@
+-- The first line at fault, found with the tables of a survey. Assumes nothing.
+use Prim.Native.Nat.{ℕ, suc, _+_, _-_, _<_, _≤_}
+use mathlib.Core.Bool.{Bool, true, false, cond}
+use mathlib.Core.Path.{_≡_, refl, sym, ap, _∙_}
+use mathlib.Core.List.{List, [], _∷_}
+use native.Mathlib.Omega.{arith}
+use lib.ListN.{length, getD}
+use borrow.Author.Tests.{eqb-true}
+use Rattle.job.specs.Search.{last}
+use Rattle.appearance.specs.Order.{member}
+use Rattle.appearance.specs.Index.{isKey}
+use Rattle.appearance.proofs.Found.{last-taken}
+use Rattle.appearance.proofs.Numbers.{found-number, number-none}
+use Rattle.pdb_records.specs.declared.AtomLine.{AtomLine}
+use Rattle.pdb_records.specs.declared.Record.{Record}
+use Rattle.pdb_records.specs.declared.Record.the-variants.{Skipped, Short, BadNumber, AnAtom, ASegment}
+use Rattle.pdb_reading.specs.Reading.{names, segmentsIn}
+use Rattle.pdb_reading.specs.Faults.{firstAtom, isFound, faultOf, faults, firstOf, isClean}
+use Rattle.pdb_reading.specs.declared.Fault.{Fault}
+use Rattle.pdb_reading.specs.declared.Fault.the-variants.{Clean, LineShort, LineWrong, NoResidue}
+use Rattle.pdb_survey.specs.Lines.{ownFault, ownFaults, ahead, counted}
+use Rattle.pdb_survey.specs.Tables.{Known}
+use Rattle.pdb_survey.proofs.Atoms.{found-member}
+
+-- ---- a residue by the tables
+module _ (keys links : List ℕ) (n : ℕ) (more : Bool) (l : List AtomLine) (K : Known keys links n more (names l)) (x p : ℕ) (e : p ≡ last (isKey keys x) n) where
+  -- a key that is found is among the names
+  pub found-there : 0 < p → p ≤ n → true ≡ isFound (firstAtom x l)
+  unfolding isKey
+  found-there h low =
+      let z : last (isKey keys x) n ≡ suc (p - 1) = omega (arith, e) in
+      let k : getD keys (p - 1) 0 ≡ x = eqb-true (getD keys (p - 1) 0) x (last-taken (isKey keys x) n (p - 1) z) in
+      sym (found-member x l ∙ ap (λ (y : ℕ). member y (names l)) (sym k) ∙ K .among (p - 1) (omega arith))
+
+  -- one that is not found is not among them, unless there are more
+  pub found-not : p ≤ 0 → more ≡ false → false ≡ isFound (firstAtom x l)
+  found-not h m = sym (found-member x l ∙ number-none (names l) x (sym (found-number keys (names l) n x (K .all m)) ∙ sym e ∙ omega arith))
+
+-- ---- the first line at fault, line by line
+clean-is : (f : Fault) → isClean f ≡ true → f ≡ Clean
+clean-is Clean e = refl
+clean-is (LineShort n) e = absurd (let z : _≡_ {A = ℕ} 0 1 = cc in omega arith)
+clean-is (LineWrong n) e = absurd (let z : _≡_ {A = ℕ} 0 1 = cc in omega arith)
+clean-is (NoResidue n) e = absurd (let z : _≡_ {A = ℕ} 0 1 = cc in omega arith)
+
+first-of : (f g : Fault) → isClean f ≡ false → firstOf f g ≡ f
+first-of Clean g e = absurd (let z : _≡_ {A = ℕ} 0 1 = cc in omega arith)
+first-of (LineShort n) g e = refl
+first-of (LineWrong n) g e = refl
+first-of (NoResidue n) g e = refl
+
+module _ (ats : List AtomLine) (n : ℕ) (all : Fault) (rs rs′ : List Record) (r : Record) (f : Fault) where
+  pub fault-here : all ≡ faults ats n rs → rs ≡ r ∷ rs′ → f ≡ faultOf ats n r → isClean f ≡ false → f ≡ all
+  unfolding faults
+  fault-here e z p q = sym (e ∙ ap (faults ats n) z ∙ ap (λ (g : Fault). firstOf g (faults ats (n + 1) rs′)) (sym p) ∙ first-of f (faults ats (n + 1) rs′) q)
+
+  pub fault-on : all ≡ faults ats n rs → rs ≡ r ∷ rs′ → f ≡ faultOf ats n r → isClean f ≡ true → all ≡ faults ats (n + 1) rs′
+  unfolding faults
+  fault-on e z p q = e ∙ ap (faults ats n) z ∙ ap (λ (g : Fault). firstOf g (faults ats (n + 1) rs′)) (sym p ∙ clean-is f q)
+
+-- ---- the walk: where no segment stands ahead of a line that is at fault by itself, that line is the first at fault
+pub none-ahead : (ats : List AtomLine) (n : ℕ) (rs : List Record) → ahead rs ≡ 0 → ownFaults n rs ≡ faults ats n rs
+unfolding ahead ownFaults faults
+none-ahead ats n [] e = refl
+none-ahead ats n (Skipped ∷ rs) e = none-ahead ats (n + 1) rs (omega arith)
+none-ahead ats n (Short ∷ rs) e = refl
+none-ahead ats n (BadNumber ∷ rs) e = refl
+none-ahead ats n (AnAtom a ∷ rs) e = none-ahead ats (n + 1) rs (omega arith)
+none-ahead ats n (ASegment g ∷ rs) e = absurd (omega arith)
+
+own-clean : (ats : List AtomLine) (n : ℕ) (r : Record) → isClean (faultOf ats n r) ≡ true → (ownFault n r ≡ Clean) × (isClean (ownFault 1 r) ≡ true)
+own-clean ats n Skipped e = (refl, refl)
+own-clean ats n Short e = absurd (let z : _≡_ {A = ℕ} 0 1 = cc in omega arith)
+own-clean ats n BadNumber e = absurd (let z : _≡_ {A = ℕ} 0 1 = cc in omega arith)
+own-clean ats n (AnAtom a) e = (refl, refl)
+own-clean ats n (ASegment g) e = (refl, refl)
+
+module _ (ats : List AtomLine) (n : ℕ) (rs rs′ : List Record) (r : Record) (e : rs ≡ r ∷ rs′) (f : Fault) (ef : f ≡ faultOf ats n r) (clean : isClean f ≡ true) where
+  is-own : (ownFault n r ≡ Clean) × (isClean (ownFault 1 r) ≡ true)
+  is-own = own-clean ats n r (ap isClean (sym ef) ∙ clean)
+
+  pub own-on : (own : Fault) → own ≡ ownFaults n rs → own ≡ ownFaults (n + 1) rs′
+  unfolding ownFaults
+  own-on own q = q ∙ ap (ownFaults n) e ∙ ap (λ (g : Fault). firstOf g (ownFaults (n + 1) rs′)) (is-own .0)
+
+  pub ahead-on : (left k : ℕ) → left ≡ ahead rs → k ≡ counted Clean r → (k ≤ left) × (left - k ≡ ahead rs′)
+  unfolding ahead
+  ahead-on left k q ek =
+      let z : left ≡ length (segmentsIn r) + ahead rs′ = q ∙ ap ahead e ∙ ap (λ (b : Bool). cond b (length (segmentsIn r) + ahead rs′) 0) (is-own .1) in
+      (omega arith, omega arith)
+
+pub no-ahead : (rs : List Record) → rs ≡ [] → ahead rs ≡ 0
+unfolding ahead
+no-ahead rs e = ap ahead e
+
+pub none-left : (ats : List AtomLine) (n : ℕ) (rs : List Record) (all own : Fault) → all ≡ faults ats n rs → own ≡ ownFaults n rs → ahead rs ≡ 0 → own ≡ all
+none-left ats n rs all own e q z = q ∙ none-ahead ats n rs z ∙ sym e

@@ -1,0 +1,60 @@
+use borrow.Author.Needs.{needs}
+use Prim.Native.Nat.{_-_}
+use native.Mathlib.Omega.{arith}
+use lib.ListN.{length}
+use Rattle.pdb_reading.proofs.Laws.{stepped-done, stepped-got}
+use Rattle.pdb_reader.proofs.Writing.{Writing, writing-start, writing-over, writing-held, writing-segment, writing-atom, writing-more}
+use Rattle.pdb_reader.proofs.records.write_records.Statement.{statement}
+use Rattle.pdb_reader.proofs.records.write_records.Tie as tie
+
+abbrev Inv-loop : tie.InvT-loop
+Inv-loop s keys links ends marks n out₀ first second at₀ seen₀ places₀ out at seen places = Writing s out₀ first second out at seen places
+
+abbrev μ-loop : tie.MeasureT-loop
+μ-loop s keys links ends marks n out₀ first second at₀ seen₀ places₀ out at seen places = length s - at
+
+loop-holds : tie.Need-loop-holds Inv-loop μ-loop
+loop-holds c = writing-start _ _ _ _ (omega arith) (c .before .before .pre .2) (c .before .before .pre .3)
+
+step-requires : tie.Need-step-requires Inv-loop μ-loop
+step-requires c κs = c .loop .inv .inside
+
+enum-known-next : tie.Need-enum-known-next Inv-loop μ-loop
+enum-known-next c = search needs
+
+enum-told : tie.Need-enum-told Inv-loop μ-loop
+enum-told c = search needs
+
+same-length : tie.Need-same-length Inv-loop μ-loop
+same-length c = c .before .before .before .loop .inv .same
+
+returns : tie.Need-returns Inv-loop μ-loop
+returns c = writing-over _ _ _ _ _ _ _ _ (c .before .before .before .loop .inv) (stepped-done _ _ _ _ (c .before .before .step .ensures) (c .enum-told .given .1))
+
+write-record-requires : tie.Need-write-record-requires Inv-loop μ-loop
+write-record-requires c κs = let o = stepped-got _ _ _ _ _ _ _ (c .before .before .before .before .step .ensures) (c .before .before .next .given .1) in
+    (c .before .before .before .before .before .before .before .before .pre .0 .index, writing-held _ _ _ _ _ _ _ _ (c .before .before .before .before .before .loop .inv) _ _ _ o _ _ _ _ (c .before .before .before .before .before .before .before .before .pre .0 .keyed) (c .before .before .before .before .before .before .before .before .pre .1), writing-segment _ _ _ _ _ _ _ _ (c .before .before .before .before .before .loop .inv) _ _ _ o, writing-atom _ _ _ _ _ _ _ _ (c .before .before .before .before .before .loop .inv) _ _ _ o)
+
+loop-less : tie.Need-loop-less Inv-loop μ-loop
+loop-less c = let o = stepped-got _ _ _ _ _ _ _ (c .before .before .before .before .before .before .before .step .ensures) (c .before .before .before .before .before .next .given .1) in
+    omega (arith, o .more, o .within)
+
+loop-again : tie.Need-loop-again Inv-loop μ-loop
+loop-again c = let o = stepped-got _ _ _ _ _ _ _ (c .before .before .before .before .before .before .before .step .ensures) (c .before .before .before .before .before .next .given .1) in
+    writing-more _ _ _ _ _ _ _ _ (c .before .before .before .before .before .before .before .before .loop .inv) _ _ _ o _ _ (c .before .before .write-record .ensures .0 _ (c .before .before .before .before .before .before .before .before .before .before .before .pre .0) (c .before .before .before .before .before .before .before .before .before .before .before .pre .1)) (c .before .before .write-record .ensures .1) (c .before .before .write-record .ensures .2)
+
+pub write-records-spec : {M : Type 1} → statement M
+write-records-spec =
+    tie.close
+    (tie.spec
+    Inv-loop
+    μ-loop
+    loop-holds
+    step-requires
+    enum-known-next
+    enum-told
+    same-length
+    returns
+    write-record-requires
+    loop-less
+    loop-again)

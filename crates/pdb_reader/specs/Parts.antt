@@ -1,0 +1,24 @@
+-- What some records of a file give its job, as bytes.
+use Prim.Native.Nat.{ℕ, _<_}
+use mathlib.Core.List.{List, [], _∷_, map}
+use mathlib.Core.Path.{_≡_}
+use lib.ListN.{getD}
+use Rattle.job.specs.Search.{last}
+use Rattle.appearance.specs.Index.{isKey}
+use Rattle.job_writer.specs.Job.{flat, segmentBytes, atomBytes}
+use Rattle.pdb_records.specs.declared.Record.{Record}
+use Rattle.pdb_records.specs.declared.AtomLine.{AtomLine}
+use Rattle.pdb_reading.specs.Reading.{atoms, atomsIn, segments}
+use Rattle.pdb_reader.specs.Structure.{toAtom, toSegment}
+
+-- their segments, one after another
+abbrev pub segmentsFrom : List ℕ → List Record → List ℕ
+segmentsFrom s rs = flat segmentBytes (map (toSegment s) (segments rs))
+
+-- their atoms
+abbrev pub atomsFrom : List ℕ → List Record → List ℕ
+atomsFrom s rs = flat atomBytes (map (toAtom s) (atoms rs))
+
+-- the tables have the residue and the chain of the atom that a line gives
+abbrev pub Held : List ℕ → List ℕ → ℕ → Record → Type 0
+Held keys marks n r = (a : AtomLine) → atomsIn r ≡ a ∷ [] → (0 < last (isKey keys (a .name)) n) × (a .chain < 256 → 0 < getD marks (a .chain) 0)
