@@ -11,7 +11,7 @@ use Rattle.job.specs.Search.{last}
 use Rattle.job.specs.declared.Refusal.the-variants.{PastLimits, NoJobRoom}
 use Rattle.buffers.specs.Put.{put}
 use Rattle.appearance.specs.Order.{member, distinct, numbered}
-use Rattle.job_writer.specs.Job.{atomBytes, headBytes}
+use Rattle.job_writer.specs.Job.{flat, segmentBytes, atomBytes, headBytes}
 use Rattle.job_writer.proofs.Laws.{job-made}
 use Rattle.pdb_records.specs.declared.AtomLine.{AtomLine}
 use Rattle.pdb_records.specs.declared.Record.{Record}
@@ -26,8 +26,9 @@ use Rattle.pdb_survey.proofs.Walk.{noted-whole}
 use Rattle.pdb_survey.specs.declared.Counts.{Counts}
 use Rattle.pdb_survey.specs.declared.Overview.{Overview}
 use Rattle.pdb_reader.specs.Counted.{Counted}
+use Rattle.pdb_reader.proofs.AtFault.{clean-is}
 use Rattle.pdb_reader.specs.Parts.{segmentsFrom, atomsFrom}
-use Rattle.pdb_reader.specs.Structure.{chainsOf, residuesOf, segmentCount, atomCount, sizeOf, toSegment, toAtom, pdbJob}
+use Rattle.pdb_reader.specs.Structure.{Structure, chainsOf, residuesOf, sizeOf, toSegment, toAtom, jobOf, structureOf, pdbJob}
 use Rattle.pdb_reader.specs.Call.{pastLimits, byFault, readChecks, readAnswer, readBy, bufferAfter}
 use Rattle.pdb_reader.specs.declared.Read.{Read}
 use Rattle.pdb_reader.specs.declared.Read.the-variants.{Written, NoJob}
@@ -44,41 +45,41 @@ or-yes : (a : Bool) → (a || true) ≡ true
 or-yes true = refl
 or-yes false = refl
 
-pub record Limited (s : List ℕ) : Type 0 where
-  pub chains : chainsOf s ≤ 255
-  pub residues : residuesOf s ≤ 16384
-  pub segments-are : segmentCount s ≤ 65535
-  pub atoms : atomCount s ≤ 65535
+pub record Limited (x : Structure) : Type 0 where
+  pub chains : chainsOf (x .atoms) ≤ 255
+  pub residues : residuesOf (x .atoms) ≤ 16384
+  pub segments-are : length (x .segments) ≤ 65535
+  pub atoms : length (x .atoms) ≤ 65535
 
-pub limited : (s : List ℕ) → pastLimits s ≡ false → Limited s
+pub limited : (x : Structure) → pastLimits x ≡ false → Limited x
 unfolding pastLimits
-limited s e =
-    let a = or-no (ltb 255 (chainsOf s)) _ e in
-    let b = or-no (ltb 16384 (residuesOf s)) _ (a .1) in
-    let d = or-no (ltb 65535 (segmentCount s)) _ (b .1) in
+limited x e =
+    let a = or-no (ltb 255 (chainsOf (x .atoms))) _ e in
+    let b = or-no (ltb 16384 (residuesOf (x .atoms))) _ (a .1) in
+    let d = or-no (ltb 65535 (length (x .segments))) _ (b .1) in
     record {
-      chains = ltb-false 255 (chainsOf s) (a .0);
-      residues = ltb-false 16384 (residuesOf s) (b .0);
-      segments-are = ltb-false 65535 (segmentCount s) (d .0);
-      atoms = ltb-false 65535 (atomCount s) (d .1);
+      chains = ltb-false 255 (chainsOf (x .atoms)) (a .0);
+      residues = ltb-false 16384 (residuesOf (x .atoms)) (b .0);
+      segments-are = ltb-false 65535 (length (x .segments)) (d .0);
+      atoms = ltb-false 65535 (length (x .atoms)) (d .1);
     }
 
-pub residues-past : (s : List ℕ) → 16384 < residuesOf s → pastLimits s ≡ true
+pub residues-past : (x : Structure) → 16384 < residuesOf (x .atoms) → pastLimits x ≡ true
 unfolding pastLimits
-residues-past s h = rw (lt-ltb 16384 (residuesOf s) h) (or-yes (ltb 255 (chainsOf s)))
+residues-past x h = rw (lt-ltb 16384 (residuesOf (x .atoms)) h) (or-yes (ltb 255 (chainsOf (x .atoms))))
 
-module _ (s : List ℕ) (c : Counts) (g : ℕ) (C : Counted s c g) where
+module _ (x : Structure) (c : Counts) (g : ℕ) (C : Counted x c g) where
   past : (n : ℕ) {a b : ℕ} → a ≡ b → n < a → ltb n b ≡ true
   past n {a} {b} e h = lt-ltb n b (subst (λ (m : ℕ). n < m) e h)
 
   within : (n : ℕ) {a b : ℕ} → a ≡ b → a ≤ n → ltb n b ≡ false
   within n {a} {b} e h = le-ltb n b (subst (λ (m : ℕ). m ≤ n) e h)
 
-  pub past-residues : c .more ≡ true → true ≡ pastLimits s
-  past-residues e = sym (residues-past s (C .past e))
+  pub past-residues : c .more ≡ true → true ≡ pastLimits x
+  past-residues e = sym (residues-past x (C .past e))
 
   -- a file within the limits has no more residues than the tables
-  pub not-more : pastLimits s ≡ false → c .more ≡ false
+  pub not-more : pastLimits x ≡ false → c .more ≡ false
   not-more e = go (c .more) refl
     where
       go : (b : Bool) → c .more ≡ b → c .more ≡ false
@@ -86,57 +87,57 @@ module _ (s : List ℕ) (c : Counts) (g : ℕ) (C : Counted s c g) where
       go false q = q
 
   module _ (m : c .more ≡ false) where
-    few : ltb 16384 (residuesOf s) ≡ false
-    few = le-ltb 16384 (residuesOf s) (C .few m)
+    few : ltb 16384 (residuesOf (x .atoms)) ≡ false
+    few = le-ltb 16384 (residuesOf (x .atoms)) (C .few m)
 
-    pub past-chains : 255 < c .chains → true ≡ pastLimits s
+    pub past-chains : 255 < c .chains → true ≡ pastLimits x
     unfolding pastLimits
     past-chains h = rw (past 255 (C .chains m) h)
 
     module _ (h₁ : c .chains ≤ 255) where
-      pub past-segments : 65535 < g → true ≡ pastLimits s
+      pub past-segments : 65535 < g → true ≡ pastLimits x
       unfolding pastLimits
       past-segments h = rw (within 255 (C .chains m) h₁, few, past 65535 (C .segments-are) h)
 
-      pub past-atoms : g ≤ 65535 → ltb 65535 (c .atoms) ≡ pastLimits s
+      pub past-atoms : g ≤ 65535 → ltb 65535 (c .atoms) ≡ pastLimits x
       unfolding pastLimits
       past-atoms h = rw (within 255 (C .chains m) h₁, few, within 65535 (C .segments-are) h, C .atoms m)
 
-    pub size-is : 13 + c .chains + 9 * g + 33 * c .atoms ≡ sizeOf s
+    pub size-is : 13 + c .chains + 9 * g + 33 * c .atoms ≡ sizeOf x
     size-is = rw (C .chains m, C .segments-are, C .atoms m)
 
-    pub marks-are : (marks : List ℕ) → Marks marks (c .chains) (letters (atomsOf s)) → Marks marks (chainsOf s) (letters (atomsOf s))
-    marks-are marks M = subst (λ (n : ℕ). Marks marks n (letters (atomsOf s))) (C .chains m) M
+    pub marks-are : (marks : List ℕ) → Marks marks (c .chains) (letters (x .atoms)) → Marks marks (chainsOf (x .atoms)) (letters (x .atoms))
+    marks-are marks M = subst (λ (n : ℕ). Marks marks n (letters (x .atoms))) (C .chains m) M
 
     -- the counts are within the limits, and so is every sum of them
-    pub within-limits : pastLimits s ≡ false → (c .chains ≤ 255) × (g ≤ 65535) × (c .atoms ≤ 65535)
+    pub within-limits : pastLimits x ≡ false → (c .chains ≤ 255) × (g ≤ 65535) × (c .atoms ≤ 65535)
     within-limits e =
-        let L = limited s e in
+        let L = limited x e in
         (omega (arith, C .chains m, L .chains), omega (arith, C .segments-are, L .segments-are), omega (arith, C .atoms m, L .atoms))
 
     -- ---- the job's four parts
     pub written : (out b₁ b₂ b₄ : List ℕ) → b₁ ≡ put out 0 (headBytes 1 33 (c .chains) (c .residues) g (c .atoms)) → b₂ ≡ put b₁ 13 (replicate (c .chains) 1)
-        → b₄ ≡ put (put b₂ (13 + c .chains) (segmentsFrom s (records s))) (13 + c .chains + 9 * g) (atomsFrom s (records s)) → b₄ ≡ put out 0 (pdbJob s)
-    unfolding pdbJob
+        → b₄ ≡ put (put b₂ (13 + c .chains) (flat segmentBytes (map (toSegment (x .atoms)) (x .segments)))) (13 + c .chains + 9 * g) (flat atomBytes (map (toAtom (x .atoms)) (x .atoms))) → b₄ ≡ put out 0 (jobOf x)
+    unfolding jobOf
     written out b₁ b₂ b₄ e₁ e₂ e₄ =
         rw (← C .chains m, ← C .residues m)
-        (job-made 1 33 atomBytes (c .chains) (c .residues) g (c .atoms) (map (toSegment s) (segmentsOf s)) (map (toAtom s) (atomsOf s))
-        (C .segments-are ∙ sym (length-map (segmentsOf s) (toSegment s))) (C .atoms m ∙ sym (length-map (atomsOf s) (toAtom s))) out b₁ b₂ _ b₄ e₁ e₂ refl e₄)
+        (job-made 1 33 atomBytes (c .chains) (c .residues) g (c .atoms) (map (toSegment (x .atoms)) (x .segments)) (map (toAtom (x .atoms)) (x .atoms))
+        (C .segments-are ∙ sym (length-map (x .segments) (toSegment (x .atoms)))) (C .atoms m ∙ sym (length-map (x .atoms) (toAtom (x .atoms)))) out b₁ b₂ _ b₄ e₁ e₂ refl e₄)
 
 -- ---- 15 and 16
-module _ (s out : List ℕ) where
-  pub refuse-limits : (r : Read) → r ≡ NoJob PastLimits → pastLimits s ≡ true → r ≡ readChecks s (length out)
+module _ (x : Structure) (out : List ℕ) where
+  pub refuse-limits : (r : Read) → r ≡ NoJob PastLimits → pastLimits x ≡ true → r ≡ readChecks x (length out)
   unfolding readChecks
   refuse-limits r e m = e ∙ simp m
 
-  module _ (few : pastLimits s ≡ false) (size : ℕ) (is : size ≡ sizeOf s) where
-    pub refuse-room : length out < size → NoJob (NoJobRoom size) ≡ readChecks s (length out)
+  module _ (few : pastLimits x ≡ false) (size : ℕ) (is : size ≡ sizeOf x) where
+    pub refuse-room : length out < size → NoJob (NoJobRoom size) ≡ readChecks x (length out)
     unfolding readChecks
-    refuse-room h = simp (few, lt-ltb (length out) (sizeOf s) (subst (λ (n : ℕ). length out < n) is h)) (ap (λ (n : ℕ). NoJob (NoJobRoom n)) is)
+    refuse-room h = simp (few, lt-ltb (length out) (sizeOf x) (subst (λ (n : ℕ). length out < n) is h)) (ap (λ (n : ℕ). NoJob (NoJobRoom n)) is)
 
-    pub accept : size ≤ length out → Written size ≡ readChecks s (length out)
+    pub accept : size ≤ length out → Written size ≡ readChecks x (length out)
     unfolding readChecks
-    accept h = simp (few, le-ltb (length out) (sizeOf s) (subst (λ (n : ℕ). n ≤ length out) is h)) (ap Written is)
+    accept h = simp (few, le-ltb (length out) (sizeOf x) (subst (λ (n : ℕ). n ≤ length out) is h)) (ap Written is)
 
 -- ---- the survey's tables at the start, and what it told
 pub empty-tables : Noted (replicate 16384 0) (replicate 32768 0) (replicate 32768 0) (replicate 256 0) (record { atoms = 0; residues = 0; chains = 0; more = false }) []
@@ -182,7 +183,7 @@ clean-own ats n (ASegment g ∷ rs) e = clean-own ats (n + 1) rs (passed (presen
     passed true q = q
     passed false q = absurd (let z : _≡_ {A = ℕ} 0 1 = cc in omega arith)
 
-pub surveyed-counts : (s keys links ends marks : List ℕ) (v : Overview) → Surveyed s keys links ends marks v → isClean (faultIn s) ≡ true → Counted s (v .counts) (v .ahead)
+pub surveyed-counts : (s keys links ends marks : List ℕ) (v : Overview) → Surveyed s keys links ends marks v → isClean (faultIn s) ≡ true → Counted (structureOf s) (v .counts) (v .ahead)
 surveyed-counts s keys links ends marks v S e = record {
   past = λ m. S .noted .past m;
   few = λ m. omega (arith, S .noted .known .index .few, S .noted .known .all m .count);
@@ -193,30 +194,24 @@ surveyed-counts s keys links ends marks v S e = record {
 }
 
 -- ---- the whole answer
-clean-is : (f : Fault) → isClean f ≡ true → f ≡ Clean
-clean-is Clean e = refl
-clean-is (LineShort n) e = absurd (let z : _≡_ {A = ℕ} 0 1 = cc in omega arith)
-clean-is (LineWrong n) e = absurd (let z : _≡_ {A = ℕ} 0 1 = cc in omega arith)
-clean-is (NoResidue n) e = absurd (let z : _≡_ {A = ℕ} 0 1 = cc in omega arith)
-
 module _ (s out : List ℕ) (f : Fault) (ef : f ≡ faultIn s) where
   -- a fault, or counts past the limits
-  pub refused : (r : Read) → r ≡ byFault f (NoJob PastLimits) → (isClean f ≡ true → pastLimits s ≡ true) → (r ≡ readAnswer s (length out)) × (out ≡ bufferAfter s out)
+  pub refused : (r : Read) → r ≡ byFault f (NoJob PastLimits) → (isClean f ≡ true → pastLimits (structureOf s) ≡ true) → (r ≡ readAnswer s (length out)) × (out ≡ bufferAfter s out)
   unfolding readAnswer readChecks bufferAfter
   refused r er past = rw (← ef) (go f er past)
     where
-      go : (g : Fault) → r ≡ byFault g (NoJob PastLimits) → (isClean g ≡ true → pastLimits s ≡ true)
-          → (r ≡ byFault g (readChecks s (length out))) × (out ≡ readBy (byFault g (readChecks s (length out))) s out)
+      go : (g : Fault) → r ≡ byFault g (NoJob PastLimits) → (isClean g ≡ true → pastLimits (structureOf s) ≡ true)
+          → (r ≡ byFault g (readChecks (structureOf s) (length out))) × (out ≡ readBy (byFault g (readChecks (structureOf s) (length out))) s out)
       go Clean e p = (e ∙ sym (checks (p refl)), ap (λ (x : Read). readBy x s out) (sym (checks (p refl))))
         where
-          checks : pastLimits s ≡ true → readChecks s (length out) ≡ NoJob PastLimits
+          checks : pastLimits (structureOf s) ≡ true → readChecks (structureOf s) (length out) ≡ NoJob PastLimits
           checks m = simp m
       go (LineShort n) e p = (e, refl)
       go (LineWrong n) e p = (e, refl)
       go (NoResidue n) e p = (e, refl)
 
-  pub right : isClean f ≡ true → (r : Read) (out′ : List ℕ) → r ≡ readChecks s (length out) → out′ ≡ readBy r s out → (r ≡ readAnswer s (length out)) × (out′ ≡ bufferAfter s out)
+  pub right : isClean f ≡ true → (r : Read) (out′ : List ℕ) → r ≡ readChecks (structureOf s) (length out) → out′ ≡ readBy r s out → (r ≡ readAnswer s (length out)) × (out′ ≡ bufferAfter s out)
   unfolding readAnswer bufferAfter
   right c r out′ er eo =
-      let z : byFault (faultIn s) (readChecks s (length out)) ≡ r = ap (λ (g : Fault). byFault g (readChecks s (length out))) (sym ef ∙ clean-is f c) ∙ sym er in
+      let z : byFault (faultIn s) (readChecks (structureOf s) (length out)) ≡ r = ap (λ (g : Fault). byFault g (readChecks (structureOf s) (length out))) (sym ef ∙ clean-is f c) ∙ sym er in
       (sym z, eo ∙ ap (λ (x : Read). readBy x s out) (sym z))

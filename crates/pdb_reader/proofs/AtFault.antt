@@ -37,7 +37,7 @@ module _ (keys links : List ℕ) (n : ℕ) (more : Bool) (l : List AtomLine) (K 
   found-not h m = sym (found-member x l ∙ number-none (names l) x (sym (found-number keys (names l) n x (K .all m)) ∙ sym e ∙ omega arith))
 
 -- ---- the first line at fault, line by line
-clean-is : (f : Fault) → isClean f ≡ true → f ≡ Clean
+pub clean-is : (f : Fault) → isClean f ≡ true → f ≡ Clean
 clean-is Clean e = refl
 clean-is (LineShort n) e = absurd (let z : _≡_ {A = ℕ} 0 1 = cc in omega arith)
 clean-is (LineWrong n) e = absurd (let z : _≡_ {A = ℕ} 0 1 = cc in omega arith)

@@ -28,7 +28,7 @@ use Rattle.pdb_reading.specs.Reading.{reading, atoms, segments, atomsOf, segmen
 use Rattle.pdb_reading.specs.Faults.{faultIn}
 use Rattle.pdb_reading.specs.declared.Fault.{Fault}
 use Rattle.pdb_reading.specs.declared.Fault.the-variants.{Clean, LineShort, LineWrong, NoResidue}
-use Rattle.pdb_reader.specs.Structure.{toAtom, toSegment, chainsOf, residuesOf, segmentCount, atomCount, sizeOf, pdbJob}
+use Rattle.pdb_reader.specs.Structure.{toAtom, toSegment, chainsOf, residuesOf, sizeOf, jobOf, structureOf, pdbJob}
 use Rattle.pdb_reader.specs.Call.{pastLimits, byFault, readChecks, readAnswer, readBy, bufferAfter}
 use Rattle.pdb_reader.specs.declared.Read.{Read}
 use Rattle.pdb_reader.specs.declared.Read.the-variants.{Written, NoJob}
@@ -49,9 +49,9 @@ read-determined s out r r₂ out′ out₂ a b = (a .answer ∙ sym (b .answer),
 -- what it is to be accepted: no line at fault, counts within the limits, room for the job
 pub record Accepted (s : List ℕ) (room n : ℕ) : Type 0 where
   pub clean : faultIn s ≡ Clean
-  pub limits : pastLimits s ≡ false
-  pub size : n ≡ sizeOf s
-  pub fits : sizeOf s ≤ room
+  pub limits : pastLimits (structureOf s) ≡ false
+  pub size : n ≡ sizeOf (structureOf s)
+  pub fits : sizeOf (structureOf s) ≤ room
 
 no-job : {r : Refusal} {n : ℕ} → NoJob r ≡ Written n → ⊥
 no-job e = let z : _≡_ {A = ℕ} 0 1 = cc in omega arith
@@ -60,17 +60,17 @@ pub accepted : (s : List ℕ) (room n : ℕ) → readAnswer s room ≡ Written n
 unfolding readAnswer readChecks
 accepted s room n e = go (faultIn s) refl e
   where
-    rung : (a b : Bool) → pastLimits s ≡ a → ltb room (sizeOf s) ≡ b
-        → cond a (NoJob PastLimits) (cond b (NoJob (NoJobRoom (sizeOf s))) (Written (sizeOf s))) ≡ Written n → faultIn s ≡ Clean → Accepted s room n
+    rung : (a b : Bool) → pastLimits (structureOf s) ≡ a → ltb room (sizeOf (structureOf s)) ≡ b
+        → cond a (NoJob PastLimits) (cond b (NoJob (NoJobRoom (sizeOf (structureOf s)))) (Written (sizeOf (structureOf s)))) ≡ Written n → faultIn s ≡ Clean → Accepted s room n
     rung true b p q e f = absurd (no-job e)
     rung false true p q e f = absurd (no-job e)
     rung false false p q e f =
-        let z : n ≡ sizeOf s = cc in
-        record { clean = f; limits = p; size = z; fits = ltb-false room (sizeOf s) q }
+        let z : n ≡ sizeOf (structureOf s) = cc in
+        record { clean = f; limits = p; size = z; fits = ltb-false room (sizeOf (structureOf s)) q }
 
-    go : (f : Fault) → faultIn s ≡ f → byFault f (cond (pastLimits s) (NoJob PastLimits) (cond (ltb room (sizeOf s)) (NoJob (NoJobRoom (sizeOf s))) (Written (sizeOf s)))) ≡ Written n
+    go : (f : Fault) → faultIn s ≡ f → byFault f (cond (pastLimits (structureOf s)) (NoJob PastLimits) (cond (ltb room (sizeOf (structureOf s))) (NoJob (NoJobRoom (sizeOf (structureOf s)))) (Written (sizeOf (structureOf s))))) ≡ Written n
         → Accepted s room n
-    go Clean f e = rung (pastLimits s) (ltb room (sizeOf s)) refl refl e f
+    go Clean f e = rung (pastLimits (structureOf s)) (ltb room (sizeOf (structureOf s))) refl refl e f
     go (LineShort i) f e = absurd (no-job e)
     go (LineWrong i) f e = absurd (no-job e)
     go (NoResidue i) f e = absurd (no-job e)
@@ -85,14 +85,14 @@ numbered s room r e = go (faultIn s) e
         let z : x ≡ r = cc in
         subst (λ (y : Refusal). (12 ≤ numberOf y) × (numberOf y ≤ 16)) z h
 
-    rung : (a b : Bool) → cond a (NoJob PastLimits) (cond b (NoJob (NoJobRoom (sizeOf s))) (Written (sizeOf s))) ≡ NoJob r → (12 ≤ numberOf r) × (numberOf r ≤ 16)
+    rung : (a b : Bool) → cond a (NoJob PastLimits) (cond b (NoJob (NoJobRoom (sizeOf (structureOf s)))) (Written (sizeOf (structureOf s)))) ≡ NoJob r → (12 ≤ numberOf r) × (numberOf r ≤ 16)
     rung true b q = is PastLimits (omega arith, omega arith) q
-    rung false true q = is (NoJobRoom (sizeOf s)) (omega arith, omega arith) q
+    rung false true q = is (NoJobRoom (sizeOf (structureOf s))) (omega arith, omega arith) q
     rung false false q = absurd (no-job (sym q))
 
-    go : (f : Fault) → byFault f (cond (pastLimits s) (NoJob PastLimits) (cond (ltb room (sizeOf s)) (NoJob (NoJobRoom (sizeOf s))) (Written (sizeOf s)))) ≡ NoJob r
+    go : (f : Fault) → byFault f (cond (pastLimits (structureOf s)) (NoJob PastLimits) (cond (ltb room (sizeOf (structureOf s))) (NoJob (NoJobRoom (sizeOf (structureOf s)))) (Written (sizeOf (structureOf s))))) ≡ NoJob r
         → (12 ≤ numberOf r) × (numberOf r ≤ 16)
-    go Clean q = rung (pastLimits s) (ltb room (sizeOf s)) q
+    go Clean q = rung (pastLimits (structureOf s)) (ltb room (sizeOf (structureOf s))) q
     go (LineShort i) q = is (ShortLine i) (omega arith, omega arith) q
     go (LineWrong i) q = is (BadNumber i) (omega arith, omega arith) q
     go (NoResidue i) q = is (AbsentResidue i) (omega arith, omega arith) q
@@ -104,11 +104,11 @@ pub refused-nothing : (s out : List ℕ) (r : Refusal) → readAnswer s (length 
 unfolding bufferAfter
 refused-nothing s out r e = ap (λ (x : Read). readBy x s out) e
 
-job-long : (s : List ℕ) → length (pdbJob s) ≡ sizeOf s
-unfolding pdbJob
+job-long : (s : List ℕ) → length (pdbJob s) ≡ sizeOf (structureOf s)
+unfolding jobOf
 job-long s =
-    job-size 1 33 atomBytes wide-atom (chainsOf s) (residuesOf s) (map (toSegment s) (segmentsOf s)) (map (toAtom s) (atomsOf s))
-    ∙ rw (length-map (segmentsOf s) (toSegment s), length-map (atomsOf s) (toAtom s))
+    job-size 1 33 atomBytes wide-atom (chainsOf (atomsOf s)) (residuesOf (atomsOf s)) (map (toSegment (atomsOf s)) (segmentsOf s)) (map (toAtom (atomsOf s)) (atomsOf s))
+    ∙ rw (length-map (segmentsOf s) (toSegment (atomsOf s)), length-map (atomsOf s) (toAtom (atomsOf s)))
 
 after-is : (s out : List ℕ) (n : ℕ) → readAnswer s (length out) ≡ Written n → bufferAfter s out ≡ put out 0 (pdbJob s)
 unfolding bufferAfter
@@ -132,16 +132,16 @@ past-job-stays s out n k e h =
 
 -- the counts that its head has
 abbrev pub fileHead : List ℕ → Head
-fileHead s = record { chains = chainsOf s; residues = residuesOf s; segments = segmentCount s; atoms = atomCount s }
+fileHead s = record { chains = chainsOf (atomsOf s); residues = residuesOf (atomsOf s); segments = length (segmentsOf s); atoms = length (atomsOf s) }
 
 -- THE theorem: what the reader accepts, the builder never refuses before check 9
 pub accepted-passes : (s : List ℕ) (room n : ℕ) → readAnswer s room ≡ Written n → check (pdbJob s) ≡ Fine (fileHead s)
-unfolding pdbJob
+unfolding jobOf
 accepted-passes s room n e =
-    let l = limited s (accepted s room n e .limits) in
-    let g = length-map (segmentsOf s) (toSegment s) in
-    let a = length-map (atomsOf s) (toAtom s) in
-    written-fine (chainsOf s) (residuesOf s) (map (toSegment s) (segmentsOf s)) (map (toAtom s) (atomsOf s)) (l .chains) (l .residues) (omega (arith, g, l .segments-are))
+    let l = limited (structureOf s) (accepted s room n e .limits) in
+    let g = length-map (segmentsOf s) (toSegment (atomsOf s)) in
+    let a = length-map (atomsOf s) (toAtom (atomsOf s)) in
+    written-fine (chainsOf (atomsOf s)) (residuesOf (atomsOf s)) (map (toSegment (atomsOf s)) (segmentsOf s)) (map (toAtom (atomsOf s)) (atomsOf s)) (l .chains) (l .residues) (omega (arith, g, l .segments-are))
     (omega (arith, a, l .atoms)) (segment-right s) (atom-right s)
     ∙ rw (g, a)
 
@@ -154,5 +154,5 @@ coordinates-placed s k a t e =
 
 -- an empty file gives the 13-byte job
 pub empty-file : pdbJob [] ≡ 0 ∷ 0 ∷ 0 ∷ 9 ∷ 1 ∷ 0 ∷ 0 ∷ 0 ∷ 0 ∷ 0 ∷ 0 ∷ 0 ∷ 0 ∷ []
-unfolding pdbJob jobBytes headBytes u32 u16 flat lines reading atoms segments distinct
+unfolding jobOf jobBytes headBytes u32 u16 flat lines reading atoms segments distinct
 empty-file = refl

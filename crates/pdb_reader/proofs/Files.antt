@@ -30,7 +30,7 @@ use Rattle.pdb_reading.specs.Reading.{stops, saw, reading, records, atomsIn, at
 use Rattle.pdb_reading.specs.Faults.{faultOf, firstOf, faults, faultIn}
 use Rattle.pdb_reading.specs.declared.Fault.{Fault}
 use Rattle.pdb_reading.specs.declared.Fault.the-variants.{Clean, LineShort, LineWrong, NoResidue}
-use Rattle.pdb_reader.specs.Structure.{toAtom, toSegment, sizeOf, pdbJob}
+use Rattle.pdb_reader.specs.Structure.{Structure, sizeOf, jobOf, structureOf, pdbJob}
 use Rattle.pdb_reader.specs.Call.{pastLimits, byFault, readChecks, readAnswer, readBy, bufferAfter}
 use Rattle.pdb_reader.specs.declared.Read.{Read}
 use Rattle.pdb_reader.specs.declared.Read.the-variants.{Written, NoJob}
@@ -44,35 +44,22 @@ pub record Alike (s t : List ℕ) : Type 0 where
   pub answer : (room : ℕ) → readAnswer s room ≡ readAnswer t room
   pub buffer : (out : List ℕ) → bufferAfter s out ≡ bufferAfter t out
 
-module _ (s t : List ℕ) (a : atomsOf s ≡ atomsOf t) (g : segmentsOf s ≡ segmentsOf t) (f : faultIn s ≡ faultIn t) where
-  same-job : pdbJob s ≡ pdbJob t
-  unfolding pdbJob
-  same-job =
-      let as-atom : (x : AtomLine) → toAtom s x ≡ toAtom t x = λ x. rw a in
-      let as-segment : (x : SegmentLine) → toSegment s x ≡ toSegment t x = λ x. rw a in
-      let atom : toAtom s ≡ toAtom t = λ i x. as-atom x i in
-      let segment : toSegment s ≡ toSegment t = λ i x. as-segment x i in
-      rw (a, g, atom, segment)
+-- the atoms and segments, and the first fault, are all that the reader makes of a file
+pub same-structure : (s t : List ℕ) → structureOf s ≡ structureOf t → faultIn s ≡ faultIn t → Alike s t
+unfolding readAnswer bufferAfter
+same-structure s t e f = record { job = ap jobOf e; answer = answer; buffer = λ out. ap (λ (r : Read). readBy r s out) (answer (length out)) ∙ each out (readAnswer t (length out)) }
+  where
+    answer : (room : ℕ) → readAnswer s room ≡ readAnswer t room
+    answer room = ap (λ (g : Fault). byFault g (readChecks (structureOf s) room)) f ∙ ap (λ (x : Structure). byFault (faultIn t) (readChecks x room)) e
 
-  same-answer : (room : ℕ) → readAnswer s room ≡ readAnswer t room
-  unfolding readAnswer readChecks pastLimits
-  same-answer room = rw (f, a, g)
-
-  same-buffer : (out : List ℕ) → bufferAfter s out ≡ bufferAfter t out
-  unfolding bufferAfter
-  same-buffer out = ap (λ (r : Read). readBy r s out) (same-answer (length out)) ∙ each (readAnswer t (length out))
-    where
-      each : (r : Read) → readBy r s out ≡ readBy r t out
-      each (Written n) = ap (put out 0) same-job
-      each (NoJob r) = refl
-
-  -- the atoms, the segments and the first fault are all that the reader makes of a file
-  pub same-parts : Alike s t
-  same-parts = record { job = same-job; answer = same-answer; buffer = same-buffer }
+    each : (out : List ℕ) (r : Read) → readBy r s out ≡ readBy r t out
+    each out (Written n) = ap (λ (x : Structure). put out 0 (jobOf x)) e
+    each out (NoJob r) = refl
 
 -- files with the same records are the same to the reader
 pub same-records : (s t : List ℕ) → records s ≡ records t → Alike s t
-same-records s t e = same-parts s t (ap atoms e) (ap segments e) (ap (λ (rs : List Record). faults (atoms rs) 1 rs) e)
+same-records s t e =
+    same-structure s t (ap (λ (rs : List Record). record { atoms = atoms rs; segments = segments rs }) e) (ap (λ (rs : List Record). faults (atoms rs) 1 rs) e)
 
 -- a file with LF line ends, and the same file with CR LF
 pub line-ends : (s : List ℕ) → hasCr s ≡ false → Alike (crlf s) s
@@ -97,7 +84,7 @@ empty-line s t j =
     let a : atomsOf t ≡ atomsOf s = rw j (passed-over (λ (n : ℕ). atoms) (λ n. refl) (λ n r rs rs′ e. ap (λ (l : List AtomLine). atomsIn r ++ l) e) 0 false (lines s)) in
     let g : segmentsOf t ≡ segmentsOf s = rw j (passed-over (λ (n : ℕ). segments) (λ n. refl) (λ n r rs rs′ e. ap (λ (l : List SegmentLine). segmentsIn r ++ l) e) 0 false (lines s)) in
     let f : faultIn t ≡ faultIn s = rw (a, j) (passed-over (faults (atomsOf s)) (λ n. refl) (λ n r rs rs′ e. ap (firstOf (faultOf (atomsOf s) n r)) e) 1 false (lines s)) in
-    same-parts t s a g f
+    same-structure t s (λ i. record { atoms = a i; segments = g i }) f
 
 -- an LF added at the end of a file whose last byte is no CR
 pub last-lf : (s : List ℕ) → (final 10 s ≡ 13 → ⊥) → Alike (s ++ (10 ∷ [])) s
@@ -158,30 +145,30 @@ past-model s t ls m ks e ms ns j k = past-stop s t (ls ++ (m ∷ ks)) e ms ns (a
 -- ==== room
 
 -- refusal 16 is given only where the room is short, and it carries the size needed
-pub only-for-room : (s : List ℕ) (room n : ℕ) → readAnswer s room ≡ NoJob (NoJobRoom n) → (n ≡ sizeOf s) × (room < n)
+pub only-for-room : (s : List ℕ) (room n : ℕ) → readAnswer s room ≡ NoJob (NoJobRoom n) → (n ≡ sizeOf (structureOf s)) × (room < n)
 unfolding readAnswer readChecks
-only-for-room s room n e = go (faultIn s) (pastLimits s) (ltb room (sizeOf s)) refl e
+only-for-room s room n e = go (faultIn s) (pastLimits (structureOf s)) (ltb room (sizeOf (structureOf s))) refl e
   where
-    go : (f : Fault) (p b : Bool) → ltb room (sizeOf s) ≡ b
-        → byFault f (cond p (NoJob PastLimits) (cond b (NoJob (NoJobRoom (sizeOf s))) (Written (sizeOf s)))) ≡ NoJob (NoJobRoom n) → (n ≡ sizeOf s) × (room < n)
-    go Clean false true q e = let z : n ≡ sizeOf s = cc in (z, omega (arith, z, ltb-true room (sizeOf s) q))
+    go : (f : Fault) (p b : Bool) → ltb room (sizeOf (structureOf s)) ≡ b
+        → byFault f (cond p (NoJob PastLimits) (cond b (NoJob (NoJobRoom (sizeOf (structureOf s)))) (Written (sizeOf (structureOf s))))) ≡ NoJob (NoJobRoom n) → (n ≡ sizeOf (structureOf s)) × (room < n)
+    go Clean false true q e = let z : n ≡ sizeOf (structureOf s) = cc in (z, omega (arith, z, ltb-true room (sizeOf (structureOf s)) q))
     go Clean false false q e = absurd (let z : _≡_ {A = ℕ} 0 1 = cc in omega arith)
     go Clean true b q e = absurd (let z : _≡_ {A = ℕ} 0 1 = cc in omega arith)
     go (LineShort i) p b q e = absurd (let z : _≡_ {A = ℕ} 0 1 = cc in omega arith)
     go (LineWrong i) p b q e = absurd (let z : _≡_ {A = ℕ} 0 1 = cc in omega arith)
     go (NoResidue i) p b q e = absurd (let z : _≡_ {A = ℕ} 0 1 = cc in omega arith)
 
-by-room : (s : List ℕ) (room : ℕ) (b : Bool) → faultIn s ≡ Clean → pastLimits s ≡ false → ltb room (sizeOf s) ≡ b
-    → readAnswer s room ≡ cond b (NoJob (NoJobRoom (sizeOf s))) (Written (sizeOf s))
+by-room : (s : List ℕ) (room : ℕ) (b : Bool) → faultIn s ≡ Clean → pastLimits (structureOf s) ≡ false → ltb room (sizeOf (structureOf s)) ≡ b
+    → readAnswer s room ≡ cond b (NoJob (NoJobRoom (sizeOf (structureOf s)))) (Written (sizeOf (structureOf s)))
 unfolding readAnswer readChecks
 by-room s room b f p q = rw (f, p, q)
 
 -- a file with no fault and within the limits is refused exactly where the room is short, with the size needed; else its job is written
-pub room-refused : (s : List ℕ) (room : ℕ) → faultIn s ≡ Clean → pastLimits s ≡ false
-    → (room < sizeOf s → readAnswer s room ≡ NoJob (NoJobRoom (sizeOf s))) × (readAnswer s room ≡ NoJob (NoJobRoom (sizeOf s)) → room < sizeOf s)
-    × (sizeOf s ≤ room → readAnswer s room ≡ Written (sizeOf s))
+pub room-refused : (s : List ℕ) (room : ℕ) → faultIn s ≡ Clean → pastLimits (structureOf s) ≡ false
+    → (room < sizeOf (structureOf s) → readAnswer s room ≡ NoJob (NoJobRoom (sizeOf (structureOf s)))) × (readAnswer s room ≡ NoJob (NoJobRoom (sizeOf (structureOf s))) → room < sizeOf (structureOf s))
+    × (sizeOf (structureOf s) ≤ room → readAnswer s room ≡ Written (sizeOf (structureOf s)))
 room-refused s room f p =
-    (λ h. by-room s room true f p (lt-ltb room (sizeOf s) h), λ e. only-for-room s room (sizeOf s) e .1, λ h. by-room s room false f p (le-ltb room (sizeOf s) h))
+    (λ h. by-room s room true f p (lt-ltb room (sizeOf (structureOf s)) h), λ e. only-for-room s room (sizeOf (structureOf s)) e .1, λ h. by-room s room false f p (le-ltb room (sizeOf (structureOf s)) h))
 
 -- a job that was written in some room is written in any room that is no less
 pub more-room : (s : List ℕ) (room room′ n : ℕ) → readAnswer s room ≡ Written n → room ≤ room′ → readAnswer s room′ ≡ Written n
@@ -215,5 +202,5 @@ oneJob role =
 -- " CA " gives a C-alpha and "CA  " an atom of role 0, in a job of 47 bytes: 47 places suffice and 46 do not
 pub one-atom : (pdbJob (oneAtom CA) ≡ oneJob 1) × (pdbJob (oneAtom (67 ∷ 65 ∷ 32 ∷ 32 ∷ [])) ≡ oneJob 0)
     × (readAnswer (oneAtom CA) 47 ≡ Written 47) × (readAnswer (oneAtom CA) 46 ≡ NoJob (NoJobRoom 47))
-unfolding readAnswer readChecks pastLimits pdbJob jobBytes headBytes atomBytes point u64 u32 u16 flat lines reading kindOf ofKind atomOf roleOf named same whole thousandths run decimal bits coordinate round toBits atoms segments distinct member place faults
+unfolding readAnswer readChecks pastLimits jobOf jobBytes headBytes atomBytes point u64 u32 u16 flat lines reading kindOf ofKind atomOf roleOf named same whole thousandths run decimal bits coordinate round toBits atoms segments distinct member place faults
 one-atom = (refl, refl, refl, refl)

@@ -200,22 +200,22 @@ name-in (b ∷ l) (suc k) a t e =
     (rw (h .0) (or-true (eqb (a .name) (b .name))), rw (h .1) (or-true (eqb (a .chain) (b .chain))))
 
 -- ---- and of the job's records
-pub atom-right : (s : List ℕ) (k : ℕ) (b : JobAtom) (t : List JobAtom) → drop k (map (toAtom s) (atomsOf s)) ≡ b ∷ t → Right (chainsOf s) (residuesOf s) b
+pub atom-right : (s : List ℕ) (k : ℕ) (b : JobAtom) (t : List JobAtom) → drop k (map (toAtom (atomsOf s)) (atomsOf s)) ≡ b ∷ t → Right (chainsOf (atomsOf s)) (residuesOf (atomsOf s)) b
 unfolding member
 atom-right s k b t e =
-    let m = map-back (toAtom s) (atomsOf s) k b t e in
+    let m = map-back (toAtom (atomsOf s)) (atomsOf s) k b t e in
     let p = atom-proper s k (m .item) (m .tail) (m .is) in
     let n = name-in (atomsOf s) k (m .item) (m .tail) (m .is) in
-    subst (Right (chainsOf s) (residuesOf s)) (sym (m .image)) (record {
+    subst (Right (chainsOf (atomsOf s)) (residuesOf (atomsOf s))) (sym (m .image)) (record {
       role = p .role;
-      residue = place-lt (m .item .name) (residueOrder s) (member-distinct (m .item .name) [] (names (atomsOf s)) ∙ n .0);
-      chain = place-lt (m .item .chain) (chainOrder s) (member-distinct (m .item .chain) [] (letters (atomsOf s)) ∙ n .1);
+      residue = place-lt (m .item .name) (residueOrder (atomsOf s)) (member-distinct (m .item .name) [] (names (atomsOf s)) ∙ n .0);
+      chain = place-lt (m .item .chain) (chainOrder (atomsOf s)) (member-distinct (m .item .chain) [] (letters (atomsOf s)) ∙ n .1);
       x = p .x;
       y = p .y;
       z = p .z;
     })
 
-pub segment-right : (s : List ℕ) (k : ℕ) (b : JobSegment) (t : List JobSegment) → drop k (map (toSegment s) (segmentsOf s)) ≡ b ∷ t → b .kind ≤ 2
+pub segment-right : (s : List ℕ) (k : ℕ) (b : JobSegment) (t : List JobSegment) → drop k (map (toSegment (atomsOf s)) (segmentsOf s)) ≡ b ∷ t → b .kind ≤ 2
 segment-right s k b t e =
-    let m = map-back (toSegment s) (segmentsOf s) k b t e in
+    let m = map-back (toSegment (atomsOf s)) (segmentsOf s) k b t e in
     subst (λ (g : JobSegment). g .kind ≤ 2) (sym (m .image)) (segment-proper s k (m .item) (m .tail) (m .is))

@@ -24,14 +24,14 @@ use Rattle.pdb_records.specs.declared.AtomLine.{AtomLine}
 use Rattle.pdb_records.specs.declared.SegmentLine.{SegmentLine}
 use Rattle.pdb_records.specs.declared.Record.{Record}
 use Rattle.pdb_records.specs.declared.Record.the-variants.{AnAtom, ASegment}
-use Rattle.pdb_reading.specs.Reading.{rest, records, atoms, atomsIn, atomsOf, segments, segmentsIn, names, letters}
+use Rattle.pdb_reading.specs.Reading.{rest, records, atoms, atomsIn, atomsOf, segments, segmentsIn, segmentsOf, names, letters}
 use Rattle.pdb_reading.specs.Steps.{Onward}
 use Rattle.pdb_reading.specs.Faults.{firstAtom, lastAtom, isFound, serialIn}
 use Rattle.pdb_reading.specs.declared.Found.{Found}
 use Rattle.pdb_reading.specs.declared.Found.the-variants.{Nowhere, Serial}
 use Rattle.pdb_survey.specs.Tables.{Residues, Marks}
 use Rattle.pdb_survey.proofs.Atoms.{found-member}
-use Rattle.pdb_reader.specs.Structure.{toAtom, toSegment, residueOrder, chainOrder, chainsOf, segmentCount, atomCount}
+use Rattle.pdb_reader.specs.Structure.{toAtom, toSegment, residueOrder, chainOrder, chainsOf}
 use Rattle.pdb_reader.specs.Parts.{segmentsFrom, atomsFrom, Held}
 use Rattle.pdb_reader.specs.declared.records.Places.{Places}
 
@@ -82,20 +82,20 @@ pub last-serial : (keys links ends : List ℕ) (n : ℕ) (l : List AtomLine) →
 last-serial keys links ends n l R x p e low r none some =
     by-number keys links ends n l R x p e r 16384 none some (λ (y : ℕ). lastAtom y l) (no-last x l) (R .last) low
 
-pub segment-made : (s : List ℕ) (g : SegmentLine) (a b : ℕ) → a ≡ serialIn (firstAtom (g .start) (atomsOf s)) → b ≡ serialIn (lastAtom (g .end) (atomsOf s))
-    → _≡_ {A = JobSegment} (record { kind = g .kind; start = a; end = b }) (toSegment s g)
-segment-made s g a b p q = rw (p, q)
+pub segment-made : (l : List AtomLine) (g : SegmentLine) (a b : ℕ) → a ≡ serialIn (firstAtom (g .start) l) → b ≡ serialIn (lastAtom (g .end) l)
+    → _≡_ {A = JobSegment} (record { kind = g .kind; start = a; end = b }) (toSegment l g)
+segment-made l g a b p q = rw (p, q)
 
-pub atom-made : (s keys marks : List ℕ) (n : ℕ) (x : AtomLine) → Keyed keys n (names (atomsOf s)) → Marks marks (chainsOf s) (letters (atomsOf s)) → x .chain < 256
+pub atom-made : (l : List AtomLine) (keys marks : List ℕ) (n : ℕ) (x : AtomLine) → Keyed keys n (names l) → Marks marks (chainsOf l) (letters l) → x .chain < 256
     → (p c : ℕ) → p ≡ last (isKey keys (x .name)) n → 0 < p → c ≡ getD marks (x .chain) 0 → 0 < c
-    → _≡_ {A = JobAtom} (record { serial = x .serial; role = x .role; residue = p - 1; chain = c - 1; x = x .x; y = x .y; z = x .z }) (toAtom s x)
-atom-made s keys marks n x K M low p c ep hp ec hc =
-    let np : p ≡ numbered (names (atomsOf s)) (x .name) = ep ∙ found-number keys (names (atomsOf s)) n (x .name) K in
-    let nc : c ≡ numbered (letters (atomsOf s)) (x .chain) = ec ∙ M .mark (x .chain) low in
-    let mp = number-is (names (atomsOf s)) (x .name) (number-some (names (atomsOf s)) (x .name) (subst (λ (k : ℕ). 0 < k) np hp)) in
-    let mc = number-is (letters (atomsOf s)) (x .chain) (number-some (letters (atomsOf s)) (x .chain) (subst (λ (k : ℕ). 0 < k) nc hc)) in
-    let r : p - 1 ≡ place (x .name) (residueOrder s) = omega (arith, np, mp) in
-    let q : c - 1 ≡ place (x .chain) (chainOrder s) = omega (arith, nc, mc) in
+    → _≡_ {A = JobAtom} (record { serial = x .serial; role = x .role; residue = p - 1; chain = c - 1; x = x .x; y = x .y; z = x .z }) (toAtom l x)
+atom-made l keys marks n x K M low p c ep hp ec hc =
+    let np : p ≡ numbered (names l) (x .name) = ep ∙ found-number keys (names l) n (x .name) K in
+    let nc : c ≡ numbered (letters l) (x .chain) = ec ∙ M .mark (x .chain) low in
+    let mp = number-is (names l) (x .name) (number-some (names l) (x .name) (subst (λ (k : ℕ). 0 < k) np hp)) in
+    let mc = number-is (letters l) (x .chain) (number-some (letters l) (x .chain) (subst (λ (k : ℕ). 0 < k) nc hc)) in
+    let r : p - 1 ≡ place (x .name) (residueOrder l) = omega (arith, np, mp) in
+    let q : c - 1 ≡ place (x .chain) (chainOrder l) = omega (arith, nc, mc) in
     rw (r, q)
 
 -- ---- an atom that is still to come has its residue and its chain in the tables
@@ -139,18 +139,18 @@ module _ (r : Record) where
   pub counts-are : (t : Record) → r ≡ t → (length (segmentsIn t) ≡ length (segmentsIn r)) × (length (atomsIn t) ≡ length (atomsIn r))
   counts-are t e = rw e (refl, refl)
 
-  module _ (s out : List ℕ) (g a : ℕ) where
+  module _ (l : List AtomLine) (out : List ℕ) (g a : ℕ) where
     -- what the buffer holds after the line
     abbrev After : Record → List ℕ
-    After r = put (put out g (segmentsFrom s (r ∷ []))) a (atomsFrom s (r ∷ []))
+    After r = put (put out g (segmentsFrom l (r ∷ []))) a (atomsFrom l (r ∷ []))
 
-    pub wrote-segment : (x : SegmentLine) (j : JobSegment) (out′ : List ℕ) → r ≡ ASegment x → j ≡ toSegment s x → out′ ≡ put out g (segmentBytes j) → out′ ≡ After r
+    pub wrote-segment : (x : SegmentLine) (j : JobSegment) (out′ : List ℕ) → r ≡ ASegment x → j ≡ toSegment l x → out′ ≡ put out g (segmentBytes j) → out′ ≡ After r
     unfolding segments atoms flat put
-    wrote-segment x j out′ e ej eo = eo ∙ ap (λ (j : JobSegment). put out g (segmentBytes j)) ej ∙ ap (put out g) (sym (append-nil (segmentBytes (toSegment s x)))) ∙ ap After (sym e)
+    wrote-segment x j out′ e ej eo = eo ∙ ap (λ (j : JobSegment). put out g (segmentBytes j)) ej ∙ ap (put out g) (sym (append-nil (segmentBytes (toSegment l x)))) ∙ ap After (sym e)
 
-    pub wrote-atom : (x : AtomLine) (j : JobAtom) (out′ : List ℕ) → r ≡ AnAtom x → j ≡ toAtom s x → out′ ≡ put out a (atomBytes j) → out′ ≡ After r
+    pub wrote-atom : (x : AtomLine) (j : JobAtom) (out′ : List ℕ) → r ≡ AnAtom x → j ≡ toAtom l x → out′ ≡ put out a (atomBytes j) → out′ ≡ After r
     unfolding segments atoms flat put
-    wrote-atom x j out′ e ej eo = eo ∙ ap (λ (j : JobAtom). put out a (atomBytes j)) ej ∙ ap (put out a) (sym (append-nil (atomBytes (toAtom s x)))) ∙ ap After (sym e)
+    wrote-atom x j out′ e ej eo = eo ∙ ap (λ (j : JobAtom). put out a (atomBytes j)) ej ∙ ap (put out a) (sym (append-nil (atomBytes (toAtom l x)))) ∙ ap After (sym e)
 
     pub wrote-none : segmentsIn r ≡ [] → atomsIn r ≡ [] → out ≡ After r
     unfolding segments atoms flat put
@@ -180,18 +180,18 @@ pub record Writing (s out₀ : List ℕ) (first second : ℕ) (out : List ℕ) (
   pub named : Named (atomsOf s) (atoms (rest s at seen))
   pub low : p .segment + 9 * length (segments (rest s at seen)) ≤ p .atom
   pub room : p .atom + 33 * length (atoms (rest s at seen)) ≤ length out
-  pub whole : put (put out₀ first (segmentsFrom s (records s))) second (atomsFrom s (records s))
-      ≡ put (put out (p .segment) (segmentsFrom s (rest s at seen))) (p .atom) (atomsFrom s (rest s at seen))
+  pub whole : put (put out₀ first (segmentsFrom (atomsOf s) (records s))) second (atomsFrom (atomsOf s) (records s))
+      ≡ put (put out (p .segment) (segmentsFrom (atomsOf s) (rest s at seen))) (p .atom) (atomsFrom (atomsOf s) (rest s at seen))
 
 module _ (s out₀ : List ℕ) (first second : ℕ) where
-  pub writing-start : length out₀ < 18446744073709551616 → first + 9 * segmentCount s ≤ second → second + 33 * atomCount s ≤ length out₀
+  pub writing-start : length out₀ < 18446744073709551616 → first + 9 * length (segmentsOf s) ≤ second → second + 33 * length (atomsOf s) ≤ length out₀
       → Writing s out₀ first second out₀ 0 false (record { segment = first; atom = second })
   writing-start b l r = record { inside = omega arith; same = refl; small = b; named = λ f y m. m; low = l; room = r; whole = refl }
 
   module _ (out : List ℕ) (at : ℕ) (seen : Bool) (p : Places) (W : Writing s out₀ first second out at seen p) where
-    pub writing-over : rest s at seen ≡ [] → out ≡ put (put out₀ first (segmentsFrom s (records s))) second (atomsFrom s (records s))
+    pub writing-over : rest s at seen ≡ [] → out ≡ put (put out₀ first (segmentsFrom (atomsOf s) (records s))) second (atomsFrom (atomsOf s) (records s))
     unfolding put flat atoms segments
-    writing-over e = sym (W .whole ∙ ap (λ (l : List Record). put (put out (p .segment) (segmentsFrom s l)) (p .atom) (atomsFrom s l)) e)
+    writing-over e = sym (W .whole ∙ ap (λ (l : List Record). put (put out (p .segment) (segmentsFrom (atomsOf s) l)) (p .atom) (atomsFrom (atomsOf s) l)) e)
 
     module _ (r : Record) (at′ : ℕ) (seen′ : Bool) (o : Onward s at seen r at′ seen′) where
       segments-are : segments (rest s at seen) ≡ segmentsIn r ++ segments (rest s at′ seen′)
@@ -217,7 +217,7 @@ module _ (s out₀ : List ℕ) (first second : ℕ) where
       pub writing-held : (keys marks : List ℕ) (n c : ℕ) → Keyed keys n (names (atomsOf s)) → Marks marks c (letters (atomsOf s)) → Held keys marks n r
       writing-held keys marks n c K M a q = held (atomsOf s) _ (atomsIn r) _ atoms-are (W .named) keys marks n c K M a q
 
-      pub writing-more : (out′ : List ℕ) (q : Places) → out′ ≡ put (put out (p .segment) (segmentsFrom s (r ∷ []))) (p .atom) (atomsFrom s (r ∷ []))
+      pub writing-more : (out′ : List ℕ) (q : Places) → out′ ≡ put (put out (p .segment) (segmentsFrom (atomsOf s) (r ∷ []))) (p .atom) (atomsFrom (atomsOf s) (r ∷ []))
           → q .segment ≡ p .segment + 9 * length (segmentsIn r) → q .atom ≡ p .atom + 33 * length (atomsIn r)
           → Writing s out₀ first second out′ at′ seen′ q
       unfolding segments atoms
@@ -233,18 +233,18 @@ module _ (s out₀ : List ℕ) (first second : ℕ) where
             whole = W .whole ∙ on;
           }
         where
-          on : put (put out (p .segment) (segmentsFrom s (rest s at seen))) (p .atom) (atomsFrom s (rest s at seen))
-              ≡ put (put out′ (q .segment) (segmentsFrom s (rest s at′ seen′))) (q .atom) (atomsFrom s (rest s at′ seen′))
+          on : put (put out (p .segment) (segmentsFrom (atomsOf s) (rest s at seen))) (p .atom) (atomsFrom (atomsOf s) (rest s at seen))
+              ≡ put (put out′ (q .segment) (segmentsFrom (atomsOf s) (rest s at′ seen′))) (q .atom) (atomsFrom (atomsOf s) (rest s at′ seen′))
           on =
-              rw (segments-are, atoms-are, bytes-on segmentBytes (toSegment s) (segmentsIn r) (segments (rest s at′ seen′)), bytes-on atomBytes (toAtom s) (atomsIn r) (atoms (rest s at′ seen′)))
+              rw (segments-are, atoms-are, bytes-on segmentBytes (toSegment (atomsOf s)) (segmentsIn r) (segments (rest s at′ seen′)), bytes-on atomBytes (toAtom (atomsOf s)) (atomsIn r) (atoms (rest s at′ seen′)))
               (two-fronts out (p .segment) (q .segment) (p .atom) (q .atom) _ _ _ _
               (es ∙ ap (λ (n : ℕ). p .segment + n) (sym (long-segments (segmentsIn r))))
               (ea ∙ ap (λ (n : ℕ). p .atom + n) (sym (long-atoms (atomsIn r))))
-              (omega (arith, W .low, fewer-segments, bytes-long segmentBytes (toSegment s) 9 wide-segment (segments (rest s at′ seen′))))
-              ∙ ap (λ (b : List ℕ). put (put b (q .segment) (segmentsFrom s (rest s at′ seen′))) (q .atom) (atomsFrom s (rest s at′ seen′))) (sym e))
+              (omega (arith, W .low, fewer-segments, bytes-long segmentBytes (toSegment (atomsOf s)) 9 wide-segment (segments (rest s at′ seen′))))
+              ∙ ap (λ (b : List ℕ). put (put b (q .segment) (segmentsFrom (atomsOf s) (rest s at′ seen′))) (q .atom) (atomsFrom (atomsOf s) (rest s at′ seen′))) (sym e))
             where
-              long-segments : (m : List SegmentLine) → length (flat segmentBytes (map (toSegment s) (m ++ []))) ≡ 9 * length m
-              long-segments m = bytes-long segmentBytes (toSegment s) 9 wide-segment (m ++ []) ∙ ap (λ (l : List SegmentLine). 9 * length l) (append-nil m)
+              long-segments : (m : List SegmentLine) → length (flat segmentBytes (map (toSegment (atomsOf s)) (m ++ []))) ≡ 9 * length m
+              long-segments m = bytes-long segmentBytes (toSegment (atomsOf s)) 9 wide-segment (m ++ []) ∙ ap (λ (l : List SegmentLine). 9 * length l) (append-nil m)
 
-              long-atoms : (m : List AtomLine) → length (flat atomBytes (map (toAtom s) (m ++ []))) ≡ 33 * length m
-              long-atoms m = bytes-long atomBytes (toAtom s) 33 wide-atom (m ++ []) ∙ ap (λ (l : List AtomLine). 33 * length l) (append-nil m)
+              long-atoms : (m : List AtomLine) → length (flat atomBytes (map (toAtom (atomsOf s)) (m ++ []))) ≡ 33 * length m
+              long-atoms m = bytes-long atomBytes (toAtom (atomsOf s)) 33 wide-atom (m ++ []) ∙ ap (λ (l : List AtomLine). 33 * length l) (append-nil m)

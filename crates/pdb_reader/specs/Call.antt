@@ -9,13 +9,13 @@ use Rattle.job.specs.declared.Refusal.the-variants.{ShortLine, BadNumber, Absen
 use Rattle.pdb_reading.specs.Faults.{faultIn}
 use Rattle.pdb_reading.specs.declared.Fault.{Fault}
 use Rattle.pdb_reading.specs.declared.Fault.the-variants.{Clean, LineShort, LineWrong, NoResidue}
-use Rattle.pdb_reader.specs.Structure.{chainsOf, residuesOf, segmentCount, atomCount, sizeOf, pdbJob}
+use Rattle.pdb_reader.specs.Structure.{Structure, chainsOf, residuesOf, sizeOf, structureOf, pdbJob}
 use Rattle.pdb_reader.specs.declared.Read.{Read}
 use Rattle.pdb_reader.specs.declared.Read.the-variants.{Written, NoJob}
 
 -- 15: 'counts past the job's limits' (01: 'C is at most 255, R at most 16,384', and S and A are u16)
-unfoldable pub pastLimits : List ℕ → Bool
-pastLimits s = ltb 255 (chainsOf s) || (ltb 16384 (residuesOf s) || (ltb 65535 (segmentCount s) || ltb 65535 (atomCount s)))
+unfoldable pub pastLimits : Structure → Bool
+pastLimits x = ltb 255 (chainsOf (x .atoms)) || (ltb 16384 (residuesOf (x .atoms)) || (ltb 65535 (length (x .segments)) || ltb 65535 (length (x .atoms))))
 
 -- 'the first line at fault .. decides among 12 to 14, .. then 15, then 16'
 abbrev pub byFault : Fault → Read → Read
@@ -25,14 +25,14 @@ byFault (LineWrong n) r = NoJob (BadNumber n)
 byFault (NoResidue n) r = NoJob (AbsentResidue n)
 
 -- 16: 'no job room, with the size needed'
-unfoldable pub readChecks : List ℕ → ℕ → Read
-readChecks s room =
-    cond (pastLimits s) (NoJob PastLimits)
-    (cond (ltb room (sizeOf s)) (NoJob (NoJobRoom (sizeOf s))) (Written (sizeOf s)))
+unfoldable pub readChecks : Structure → ℕ → Read
+readChecks x room =
+    cond (pastLimits x) (NoJob PastLimits)
+    (cond (ltb room (sizeOf x)) (NoJob (NoJobRoom (sizeOf x))) (Written (sizeOf x)))
 
 -- THE answer: of the file's bytes and of the lent buffer's length
 unfoldable pub readAnswer : List ℕ → ℕ → Read
-readAnswer s room = byFault (faultIn s) (readChecks s room)
+readAnswer s room = byFault (faultIn s) (readChecks (structureOf s) room)
 
 -- 'No output buffer changes under a refusal'; 'Places past what a call writes stay as they were'
 abbrev pub readBy : Read → List ℕ → List ℕ → List ℕ

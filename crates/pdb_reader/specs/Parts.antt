@@ -1,4 +1,4 @@
--- What some records of a file give its job, as bytes.
+-- What some records give the job of the atoms ats, as bytes.
 use Prim.Native.Nat.{ℕ, _<_}
 use mathlib.Core.List.{List, [], _∷_, map}
 use mathlib.Core.Path.{_≡_}
@@ -12,12 +12,12 @@ use Rattle.pdb_reading.specs.Reading.{atoms, atomsIn, segments}
 use Rattle.pdb_reader.specs.Structure.{toAtom, toSegment}
 
 -- their segments, one after another
-abbrev pub segmentsFrom : List ℕ → List Record → List ℕ
-segmentsFrom s rs = flat segmentBytes (map (toSegment s) (segments rs))
+abbrev pub segmentsFrom : List AtomLine → List Record → List ℕ
+segmentsFrom ats rs = flat segmentBytes (map (toSegment ats) (segments rs))
 
 -- their atoms
-abbrev pub atomsFrom : List ℕ → List Record → List ℕ
-atomsFrom s rs = flat atomBytes (map (toAtom s) (atoms rs))
+abbrev pub atomsFrom : List AtomLine → List Record → List ℕ
+atomsFrom ats rs = flat atomBytes (map (toAtom ats) (atoms rs))
 
 -- the tables have the residue and the chain of the atom that a line gives
 abbrev pub Held : List ℕ → List ℕ → ℕ → Record → Type 0

@@ -1,4 +1,4 @@
--- The job that a PDB file stands for (02 §1).
+-- The job that a structure stands for, whatever file its atoms and segments were read from (02 §1).
 use Prim.Native.Nat.{ℕ, _+_, _*_}
 use mathlib.Core.List.{List, map}
 use lib.ListN.{length}
@@ -11,50 +11,58 @@ use Rattle.pdb_records.specs.declared.SegmentLine.{SegmentLine}
 use Rattle.pdb_reading.specs.Reading.{atomsOf, segmentsOf, names, letters}
 use Rattle.pdb_reading.specs.Faults.{firstAtom, lastAtom, serialIn}
 
+-- what a file says: its atoms and its segments, each in file order
+pub record Structure : Type 0 where
+  pub atoms : List AtomLine
+  pub segments : List SegmentLine
+
 -- 'A residue is a distinct chain letter, sequence number and insertion code; residues and chains are numbered by first appearance in ATOM lines'
-abbrev pub residueOrder : List ℕ → List ℕ
-residueOrder s = order (names (atomsOf s))
+abbrev pub residueOrder : List AtomLine → List ℕ
+residueOrder ats = order (names ats)
 
-abbrev pub chainOrder : List ℕ → List ℕ
-chainOrder s = order (letters (atomsOf s))
+abbrev pub chainOrder : List AtomLine → List ℕ
+chainOrder ats = order (letters ats)
 
--- an ATOM line as an atom of the job
-abbrev pub toAtom : List ℕ → AtomLine → JobAtom
-toAtom s a = record {
+-- how many there are
+abbrev pub residuesOf : List AtomLine → ℕ
+residuesOf ats = length (residueOrder ats)
+
+abbrev pub chainsOf : List AtomLine → ℕ
+chainsOf ats = length (chainOrder ats)
+
+-- an ATOM line as an atom of the job, among the atoms ats
+abbrev pub toAtom : List AtomLine → AtomLine → JobAtom
+toAtom ats a = record {
   serial = a .serial;
   role = a .role;
-  residue = place (a .name) (residueOrder s);
-  chain = place (a .chain) (chainOrder s);
+  residue = place (a .name) (residueOrder ats);
+  chain = place (a .chain) (chainOrder ats);
   x = a .x;
   y = a .y;
   z = a .z;
 }
 
 -- 'from the serial of the starting residue's first atom to that of the ending one's last'
-abbrev pub toSegment : List ℕ → SegmentLine → JobSegment
-toSegment s g = record {
+abbrev pub toSegment : List AtomLine → SegmentLine → JobSegment
+toSegment ats g = record {
   kind = g .kind;
-  start = serialIn (firstAtom (g .start) (atomsOf s));
-  end = serialIn (lastAtom (g .end) (atomsOf s));
+  start = serialIn (firstAtom (g .start) ats);
+  end = serialIn (lastAtom (g .end) ats);
 }
 
--- the four counts
-abbrev pub chainsOf : List ℕ → ℕ
-chainsOf s = length (chainOrder s)
-
-abbrev pub residuesOf : List ℕ → ℕ
-residuesOf s = length (residueOrder s)
-
-abbrev pub segmentCount : List ℕ → ℕ
-segmentCount s = length (segmentsOf s)
-
-abbrev pub atomCount : List ℕ → ℕ
-atomCount s = length (atomsOf s)
-
 -- 01: 'Whole job: 13 + C + 9S + 33A bytes'
-abbrev pub sizeOf : List ℕ → ℕ
-sizeOf s = 13 + chainsOf s + 9 * segmentCount s + 33 * atomCount s
+abbrev pub sizeOf : Structure → ℕ
+sizeOf x = 13 + chainsOf (x .atoms) + 9 * length (x .segments) + 33 * length (x .atoms)
 
 -- THE job: 'Segments, in file order', and the atoms in file order; 'a version 1 job'
-unfoldable pub pdbJob : List ℕ → List ℕ
-pdbJob s = jobBytes 1 33 atomBytes (chainsOf s) (residuesOf s) (map (toSegment s) (segmentsOf s)) (map (toAtom s) (atomsOf s))
+unfoldable pub jobOf : Structure → List ℕ
+jobOf x =
+    jobBytes 1 33 atomBytes (chainsOf (x .atoms)) (residuesOf (x .atoms)) (map (toSegment (x .atoms)) (x .segments)) (map (toAtom (x .atoms)) (x .atoms))
+
+-- what a PDB file says
+abbrev pub structureOf : List ℕ → Structure
+structureOf s = record { atoms = atomsOf s; segments = segmentsOf s }
+
+-- and its job
+abbrev pub pdbJob : List ℕ → List ℕ
+pdbJob s = jobOf (structureOf s)

@@ -13,7 +13,7 @@ ghost use lib.ListN.{length};
 ghost use Rattle.buffers.specs.Put.{put};
 ghost use Rattle.pdb_reading.specs.Reading.{atomsOf};
 ghost use Rattle.pdb_survey.specs.Tables.{Whole, Noted};
-ghost use Rattle.pdb_reader.specs.Structure.{sizeOf, pdbJob};
+ghost use Rattle.pdb_reader.specs.Structure.{Structure, sizeOf, structureOf, pdbJob};
 ghost use Rattle.pdb_reader.specs.Call.{pastLimits, byFault, readChecks, readAnswer, readBy, bufferAfter};
 ghost use Rattle.pdb_reader.specs.Counted.{Counted};
 
@@ -24,7 +24,7 @@ pub enum Read {
 }
 
 fn is_past_limits(c: Counts, segments: usize) -> bool
-    ensures { λ r. ⌜ ((s : List ℕ) → Counted s c segments → r ≡ pastLimits s) ⌝ }
+    ensures { λ r. ⌜ ((x : Structure) → Counted x c segments → r ≡ pastLimits x) ⌝ }
 {
     if c.more {
         return true;
@@ -49,7 +49,7 @@ fn write_job(
     segments: usize,
     out: &mut [u8],
 )
-    requires { ⌜ (Noted (now keys) (now links) (now ends) (now marks) c (atomsOf (now s))) × (Counted (now s) c segments) × (pastLimits (now s) ≡ false) × (sizeOf (now s) ≤ length (now out)) ⌝ }
+    requires { ⌜ (Noted (now keys) (now links) (now ends) (now marks) c (atomsOf (now s))) × (Counted (structureOf (now s)) c segments) × (pastLimits (structureOf (now s)) ≡ false) × (sizeOf (structureOf (now s)) ≤ length (now out)) ⌝ }
     ensures { λ _. ⌜ now (out .exit) ≡ put (now (out .entry)) 0 (pdbJob (now (s .entry))) ⌝ }
 {
     let chains = c.chains;
@@ -88,8 +88,8 @@ fn read_right(
     segments: usize,
     out: &mut [u8],
 ) -> Read
-    requires { ⌜ (Noted (now keys) (now links) (now ends) (now marks) c (atomsOf (now s))) × (Counted (now s) c segments) ⌝ }
-    ensures { λ r. ⌜ (r ≡ readChecks (now (s .entry)) (length (now (out .entry)))) × (now (out .exit) ≡ readBy r (now (s .entry)) (now (out .entry))) ⌝ }
+    requires { ⌜ (Noted (now keys) (now links) (now ends) (now marks) c (atomsOf (now s))) × (Counted (structureOf (now s)) c segments) ⌝ }
+    ensures { λ r. ⌜ (r ≡ readChecks (structureOf (now (s .entry))) (length (now (out .entry)))) × (now (out .exit) ≡ readBy r (now (s .entry)) (now (out .entry))) ⌝ }
 {
     if is_past_limits(c, segments) {
         return Read::NoJob(Refusal::PastLimits);

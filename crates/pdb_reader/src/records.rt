@@ -12,9 +12,9 @@ ghost use lib.ListN.{length, getD};
 ghost use Rattle.appearance.specs.Index.{Index, Keyed, isKey};
 ghost use Rattle.job.specs.Search.{last};
 ghost use Rattle.buffers.specs.Put.{put};
-ghost use Rattle.pdb_reading.specs.Reading.{records, atomsIn, segmentsIn, atomsOf, names, letters};
+ghost use Rattle.pdb_reading.specs.Reading.{records, atomsIn, segmentsIn, atomsOf, segmentsOf, names, letters};
 ghost use Rattle.pdb_survey.specs.Tables.{Residues, Marks};
-ghost use Rattle.pdb_reader.specs.Structure.{toAtom, toSegment, chainsOf, segmentCount, atomCount};
+ghost use Rattle.pdb_reader.specs.Structure.{toAtom, toSegment, chainsOf};
 ghost use Rattle.pdb_reader.specs.Parts.{Held, segmentsFrom, atomsFrom};
 
 // What the table `ends` has from place `base` on for the residue numbered `p` from 1; 0 for none.
@@ -37,7 +37,7 @@ fn to_segment(
     g: SegmentLine,
 ) -> JobSegment
     requires { ⌜ Index (now keys) (now links) n ⌝ }
-    ensures { λ j. ⌜ ((s : List ℕ) → Residues (now (keys .entry)) (now (links .entry)) (now (ends .entry)) n (atomsOf s) → j ≡ toSegment s g) ⌝ }
+    ensures { λ j. ⌜ ((l : List AtomLine) → Residues (now (keys .entry)) (now (links .entry)) (now (ends .entry)) n l → j ≡ toSegment l g) ⌝ }
 {
     let a = appearance::find(keys, links, n, g.start);
     let start = serial_at(ends, 0, a);
@@ -59,7 +59,7 @@ fn to_atom(
     x: AtomLine,
 ) -> JobAtom
     requires { ⌜ (Index (now keys) (now links) n) × (0 < last (isKey (now keys) (x .name)) n) × (0 < getD (now marks) (x .chain) 0) ⌝ }
-    ensures { λ j. ⌜ ((s : List ℕ) → Keyed (now (keys .entry)) n (names (atomsOf s)) → Marks (now (marks .entry)) (chainsOf s) (letters (atomsOf s)) → j ≡ toAtom s x) ⌝ }
+    ensures { λ j. ⌜ ((l : List AtomLine) → Keyed (now (keys .entry)) n (names l) → Marks (now (marks .entry)) (chainsOf l) (letters l) → j ≡ toAtom l x) ⌝ }
 {
     let p = appearance::find(keys, links, n, x.name);
     let i = x.chain as usize;
@@ -93,7 +93,7 @@ fn write_record(
     r: Record,
 ) -> Places
     requires { ⌜ (Index (now keys) (now links) n) × (Held (now keys) (now marks) n r) × (at .segment + 9 * length (segmentsIn r) ≤ length (now out)) × (at .atom + 33 * length (atomsIn r) ≤ length (now out)) ⌝ }
-    ensures { λ p. ⌜ ((s : List ℕ) → Residues (now (keys .entry)) (now (links .entry)) (now (ends .entry)) n (atomsOf s) → Marks (now (marks .entry)) (chainsOf s) (letters (atomsOf s)) → now (out .exit) ≡ put (put (now (out .entry)) (at .segment) (segmentsFrom s (r ∷ []))) (at .atom) (atomsFrom s (r ∷ []))) × (p .segment ≡ at .segment + 9 * length (segmentsIn r)) × (p .atom ≡ at .atom + 33 * length (atomsIn r)) ⌝ }
+    ensures { λ p. ⌜ ((l : List AtomLine) → Residues (now (keys .entry)) (now (links .entry)) (now (ends .entry)) n l → Marks (now (marks .entry)) (chainsOf l) (letters l) → now (out .exit) ≡ put (put (now (out .entry)) (at .segment) (segmentsFrom l (r ∷ []))) (at .atom) (atomsFrom l (r ∷ []))) × (p .segment ≡ at .segment + 9 * length (segmentsIn r)) × (p .atom ≡ at .atom + 33 * length (atomsIn r)) ⌝ }
 {
     match r {
         Record::ASegment(g) => {
@@ -130,8 +130,8 @@ pub fn write_records(
     first: usize,
     second: usize,
 )
-    requires { ⌜ (Residues (now keys) (now links) (now ends) n (atomsOf (now s))) × (Marks (now marks) (chainsOf (now s)) (letters (atomsOf (now s)))) × (first + 9 * segmentCount (now s) ≤ second) × (second + 33 * atomCount (now s) ≤ length (now out)) ⌝ }
-    ensures { λ _. ⌜ now (out .exit) ≡ put (put (now (out .entry)) first (segmentsFrom (now (s .entry)) (records (now (s .entry))))) second (atomsFrom (now (s .entry)) (records (now (s .entry)))) ⌝ }
+    requires { ⌜ (Residues (now keys) (now links) (now ends) n (atomsOf (now s))) × (Marks (now marks) (chainsOf (atomsOf (now s))) (letters (atomsOf (now s)))) × (first + 9 * length (segmentsOf (now s)) ≤ second) × (second + 33 * length (atomsOf (now s)) ≤ length (now out)) ⌝ }
+    ensures { λ _. ⌜ now (out .exit) ≡ put (put (now (out .entry)) first (segmentsFrom (atomsOf (now (s .entry))) (records (now (s .entry))))) second (atomsFrom (atomsOf (now (s .entry))) (records (now (s .entry)))) ⌝ }
 {
     let mut at = 0;
     let mut seen = false;
