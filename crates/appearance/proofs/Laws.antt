@@ -19,9 +19,13 @@ or-false : (a : Bool) → (a || false) ≡ a
 or-false true = refl
 or-false false = refl
 
-or-true : (a : Bool) → (a || true) ≡ true
+pub or-true : (a : Bool) → (a || true) ≡ true
 or-true true = refl
 or-true false = refl
+
+pub or-no : (a b : Bool) → (a || b) ≡ false → (a ≡ false) × (b ≡ false)
+or-no true b e = absurd (let z : _≡_ {A = ℕ} 0 1 = cc in omega arith)
+or-no false b e = (refl, e)
 
 pub member-append : (x : ℕ) (a b : List ℕ) → member x (a ++ b) ≡ (member x a || member x b)
 unfolding member

@@ -1,6 +1,6 @@
 -- The answers of the call, rung by rung. Assumes nothing.
 use Prim.Native.Nat.{ℕ, _+_, _*_, _<_, _≤_}
-use mathlib.Core.Bool.{Bool, true, false, cond, _||_}
+use mathlib.Core.Bool.{Bool, true, false, cond}
 use mathlib.Core.Path.{_≡_, refl, sym, ap, _∙_, subst}
 use mathlib.Core.List.{List, [], _∷_, map}
 use native.Mathlib.Omega.{arith}
@@ -10,13 +10,14 @@ use borrow.Author.Tests.{lt-ltb, le-ltb, ltb-false}
 use Rattle.job.specs.Search.{last}
 use Rattle.job.specs.declared.Refusal.the-variants.{PastLimits, NoJobRoom}
 use Rattle.buffers.specs.Put.{put}
+use Rattle.appearance.proofs.Laws.{or-true, or-no}
 use Rattle.appearance.specs.Order.{member, distinct, numbered}
 use Rattle.job_writer.specs.Job.{flat, segmentBytes, atomBytes, headBytes}
 use Rattle.job_writer.proofs.Laws.{job-made}
 use Rattle.pdb_records.specs.declared.AtomLine.{AtomLine}
 use Rattle.pdb_records.specs.declared.Record.{Record}
 use Rattle.pdb_records.specs.declared.Record.the-variants.{Skipped, Short, BadNumber, AnAtom, ASegment}
-use Rattle.pdb_reading.specs.Reading.{records, segments, atomsOf, segmentsOf, letters}
+use Rattle.pdb_reading.specs.Reading.{records, segments, atomsOf, letters}
 use Rattle.pdb_reading.specs.Faults.{faultIn, faults, isClean, firstOf, present}
 use Rattle.pdb_reading.specs.declared.Fault.{Fault}
 use Rattle.pdb_reading.specs.declared.Fault.the-variants.{Clean, LineShort, LineWrong, NoResidue}
@@ -27,8 +28,7 @@ use Rattle.pdb_survey.specs.declared.Counts.{Counts}
 use Rattle.pdb_survey.specs.declared.Overview.{Overview}
 use Rattle.pdb_reader.specs.Counted.{Counted}
 use Rattle.pdb_reader.proofs.AtFault.{clean-is}
-use Rattle.pdb_reader.specs.Parts.{segmentsFrom, atomsFrom}
-use Rattle.pdb_reader.specs.Structure.{Structure, chainsOf, residuesOf, sizeOf, toSegment, toAtom, jobOf, structureOf, pdbJob}
+use Rattle.pdb_reader.specs.Structure.{Structure, chainsOf, residuesOf, sizeOf, toSegment, toAtom, jobOf, structureOf}
 use Rattle.pdb_reader.specs.Call.{pastLimits, byFault, readChecks, readAnswer, readBy, bufferAfter}
 use Rattle.pdb_reader.specs.declared.Read.{Read}
 use Rattle.pdb_reader.specs.declared.Read.the-variants.{Written, NoJob}
@@ -37,14 +37,6 @@ pub clash : _≡_ {A = Bool} true false → ⊥
 clash e = let z : _≡_ {A = ℕ} 0 1 = cc in omega arith
 
 -- ---- 15: the limits
-or-no : (a b : Bool) → (a || b) ≡ false → (a ≡ false) × (b ≡ false)
-or-no true b e = absurd (let z : _≡_ {A = ℕ} 0 1 = cc in omega arith)
-or-no false b e = (refl, e)
-
-or-yes : (a : Bool) → (a || true) ≡ true
-or-yes true = refl
-or-yes false = refl
-
 pub record Limited (x : Structure) : Type 0 where
   pub chains : chainsOf (x .atoms) ≤ 255
   pub residues : residuesOf (x .atoms) ≤ 16384
@@ -66,7 +58,7 @@ limited x e =
 
 pub residues-past : (x : Structure) → 16384 < residuesOf (x .atoms) → pastLimits x ≡ true
 unfolding pastLimits
-residues-past x h = rw (lt-ltb 16384 (residuesOf (x .atoms)) h) (or-yes (ltb 255 (chainsOf (x .atoms))))
+residues-past x h = rw (lt-ltb 16384 (residuesOf (x .atoms)) h) (or-true (ltb 255 (chainsOf (x .atoms))))
 
 module _ (x : Structure) (c : Counts) (g : ℕ) (C : Counted x c g) where
   past : (n : ℕ) {a b : ℕ} → a ≡ b → n < a → ltb n b ≡ true

@@ -12,7 +12,6 @@ use Rattle.buffers.proofs.Puts.{put-there, getD-put-past}
 use Rattle.job.specs.Check.{check}
 use Rattle.job.specs.Coordinate.{within}
 use Rattle.job.specs.Refusals.{numberOf}
-use Rattle.job.specs.declared.Head.{Head}
 use Rattle.job.specs.declared.Checked.the-variants.{Fine}
 use Rattle.job.specs.declared.Refusal.{Refusal}
 use Rattle.job.specs.declared.Refusal.the-variants.{ShortLine, BadNumber, AbsentResidue, PastLimits, NoJobRoom}
@@ -21,7 +20,6 @@ use Rattle.job_writer.specs.Bytes.{u16, u32}
 use Rattle.job_writer.specs.Job.{flat, headBytes, jobBytes, atomBytes}
 use Rattle.job_writer.proofs.Laws.{wide-atom}
 use Rattle.job_writer.proofs.Readback.{job-size}
-use Rattle.job_writer.proofs.Fine.{written-fine}
 use Rattle.pdb_lines.specs.Lines.{lines}
 use Rattle.pdb_records.specs.declared.AtomLine.{AtomLine}
 use Rattle.pdb_reading.specs.Reading.{reading, atoms, segments, atomsOf, segmentsOf}
@@ -32,8 +30,8 @@ use Rattle.pdb_reader.specs.Structure.{toAtom, toSegment, chainsOf, resi
 use Rattle.pdb_reader.specs.Call.{pastLimits, byFault, readChecks, readAnswer, readBy, bufferAfter}
 use Rattle.pdb_reader.specs.declared.Read.{Read}
 use Rattle.pdb_reader.specs.declared.Read.the-variants.{Written, NoJob}
-use Rattle.pdb_reader.proofs.Answers.{limited}
-use Rattle.pdb_reader.proofs.Lines.{NotMinusZero, atom-proper, atom-right, segment-right}
+use Rattle.pdb_reader.proofs.Passes.{NotMinusZero, Proper, every-at, headOf, structure-passes}
+use Rattle.pdb_reader.proofs.Lines.{atoms-proper, segments-kinded}
 
 -- ==== every file and every lent buffer gets a job or one numbered refusal
 
@@ -130,26 +128,19 @@ past-job-stays s out n k e h =
 
 -- ==== the job
 
--- the counts that its head has
-abbrev pub fileHead : List ℕ → Head
-fileHead s = record { chains = chainsOf (atomsOf s); residues = residuesOf (atomsOf s); segments = length (segmentsOf s); atoms = length (atomsOf s) }
-
 -- THE theorem: what the reader accepts, the builder never refuses before check 9
-pub accepted-passes : (s : List ℕ) (room n : ℕ) → readAnswer s room ≡ Written n → check (pdbJob s) ≡ Fine (fileHead s)
-unfolding jobOf
-accepted-passes s room n e =
-    let l = limited (structureOf s) (accepted s room n e .limits) in
-    let g = length-map (segmentsOf s) (toSegment (atomsOf s)) in
-    let a = length-map (atomsOf s) (toAtom (atomsOf s)) in
-    written-fine (chainsOf (atomsOf s)) (residuesOf (atomsOf s)) (map (toSegment (atomsOf s)) (segmentsOf s)) (map (toAtom (atomsOf s)) (atomsOf s)) (l .chains) (l .residues) (omega (arith, g, l .segments-are))
-    (omega (arith, a, l .atoms)) (segment-right s) (atom-right s)
-    ∙ rw (g, a)
+pub accepted-passes : (s : List ℕ) (room n : ℕ) → readAnswer s room ≡ Written n → check (pdbJob s) ≡ Fine (headOf (structureOf s))
+accepted-passes s room n e = structure-passes (structureOf s) (atoms-proper s) (segments-kinded s) (accepted s room n e .limits)
+
+-- the same of the bytes that stand in the lent buffer: its first n places are what a user hands to the builder
+pub buffer-passes : (s out : List ℕ) (n : ℕ) → readAnswer s (length out) ≡ Written n → check (take n (bufferAfter s out)) ≡ Fine (headOf (structureOf s))
+buffer-passes s out n e = ap check (job-in-front s out n e) ∙ accepted-passes s (length out) n e
 
 -- every coordinate is within the limits of check 8, and none is -0
 pub coordinates-placed : (s : List ℕ) (k : ℕ) (a : AtomLine) (t : List AtomLine) → drop k (atomsOf s) ≡ a ∷ t
     → (within (a .x) ≡ true) × (within (a .y) ≡ true) × (within (a .z) ≡ true) × (NotMinusZero (a .x)) × (NotMinusZero (a .y)) × (NotMinusZero (a .z))
 coordinates-placed s k a t e =
-    let p = atom-proper s k a t e in
+    let p = every-at Proper (atomsOf s) k a t (atoms-proper s) e in
     (p .x .inside, p .y .inside, p .z .inside, p .plus-x, p .plus-y, p .plus-z)
 
 -- an empty file gives the 13-byte job

@@ -1,6 +1,7 @@
 pub mod AtFault
 pub mod Writing
 pub mod Answers
+pub mod Passes
 pub mod Small
 pub mod Range
 pub mod Lines

@@ -1,17 +1,12 @@
 -- What is true of every atom and segment that a file gives. Assumes nothing.
 use Prim.Native.Nat.{ℕ, zero, suc, _≤_}
-use mathlib.Core.Bool.{Bool, true, false, cond, _||_}
-use mathlib.Core.Path.{_≡_, refl, sym, ap, _∙_, subst}
-use mathlib.Core.List.{List, [], _∷_, map}
+use mathlib.Core.Bool.{Bool, true, false, cond}
+use mathlib.Core.Path.{_≡_, refl, subst}
+use mathlib.Core.List.{List, [], _∷_}
 use native.Mathlib.Omega.{arith}
-use lib.Dec.{eqb, ltb}
+use lib.Dec.{ltb}
 use lib.ListN.{length, take, drop}
-use borrow.Author.Tests.{eq-eqb}
-use Rattle.appearance.specs.Order.{member}
-use Rattle.appearance.proofs.Laws.{place-lt, member-distinct}
-use Rattle.job_writer.specs.declared.JobAtom.{JobAtom}
-use Rattle.job_writer.specs.declared.JobSegment.{JobSegment}
-use Rattle.job_writer.proofs.Fine.{Placed, Right}
+use Rattle.job_writer.proofs.Fine.{Placed}
 use Rattle.coordinates.specs.Coordinate.{bits}
 use Rattle.pdb_lines.specs.Columns.{column, columns, named}
 use Rattle.pdb_fields.specs.Numbers.{whole, thousandths}
@@ -25,29 +20,10 @@ use Rattle.pdb_records.specs.declared.Field.{Field}
 use Rattle.pdb_records.specs.declared.Field.the-variants as field
 use Rattle.pdb_records.specs.declared.Record.{Record}
 use Rattle.pdb_records.specs.declared.Record.the-variants.{Skipped, Short, BadNumber, AnAtom, ASegment}
-use Rattle.pdb_records.specs.declared.AtomLine.{AtomLine}
-use Rattle.pdb_records.specs.declared.SegmentLine.{SegmentLine}
-use Rattle.pdb_reading.specs.Reading.{stops, saw, reading, records, atoms, atomsOf, segments, segmentsOf, names, letters}
-use Rattle.pdb_reader.specs.Structure.{toAtom, toSegment, chainsOf, residuesOf, residueOrder, chainOrder}
+use Rattle.pdb_reading.specs.Reading.{stops, saw, reading, records, atoms, atomsOf, segments, segmentsOf}
+use Rattle.pdb_reader.proofs.Passes.{NotMinusZero, Proper, Every, Kinded}
 use Rattle.pdb_reader.proofs.Small.{thousandths-small}
 use Rattle.pdb_reader.proofs.Range.{within-bits-of, bits-small, never-minus-zero}
-
--- 'zero always +0': the bits are not those of -0
-abbrev pub NotMinusZero : ℕ → Type 0
-NotMinusZero x = x ≡ 0x8000000000000000 → ⊥
-
-pub record Proper (a : AtomLine) : Type 0 where
-  pub role : a .role ≤ 2
-  pub x : Placed (a .x)
-  pub y : Placed (a .y)
-  pub z : Placed (a .z)
-  pub plus-x : NotMinusZero (a .x)
-  pub plus-y : NotMinusZero (a .y)
-  pub plus-z : NotMinusZero (a .z)
-
-abbrev pub Every : {A : Type 0} → (A → Type 0) → List A → Type 0
-Every P [] = Unit
-Every P (x ∷ l) = P x × Every P l
 
 abbrev Sound : Record → Type 0
 Sound Skipped = Unit
@@ -141,7 +117,7 @@ every-atom (BadNumber ∷ rs) h = every-atom rs (h .1)
 every-atom (AnAtom a ∷ rs) h = (h .0, every-atom rs (h .1))
 every-atom (ASegment g ∷ rs) h = every-atom rs (h .1)
 
-every-segment : (rs : List Record) → Every Sound rs → Every (λ (g : SegmentLine). g .kind ≤ 2) (segments rs)
+every-segment : (rs : List Record) → Every Sound rs → Every Kinded (segments rs)
 unfolding segments
 every-segment [] h = tt
 every-segment (Skipped ∷ rs) h = every-segment rs (h .1)
@@ -150,72 +126,9 @@ every-segment (BadNumber ∷ rs) h = every-segment rs (h .1)
 every-segment (AnAtom a ∷ rs) h = every-segment rs (h .1)
 every-segment (ASegment g ∷ rs) h = (h .0, every-segment rs (h .1))
 
--- ---- number k of a list
-every-at : {A : Type 0} (P : A → Type 0) (l : List A) (k : ℕ) (x : A) (r : List A) → Every P l → drop k l ≡ x ∷ r → P x
-every-at P [] zero x r h e = absurd (let z : _≡_ {A = ℕ} 0 1 = cc in omega arith)
-every-at P [] (suc k) x r h e = absurd (let z : _≡_ {A = ℕ} 0 1 = cc in omega arith)
-every-at P (y ∷ l) zero x r h e =
-    let q : y ≡ x = cc in
-    subst P q (h .0)
-every-at P (y ∷ l) (suc k) x r h e = every-at P l k x r (h .1) e
+-- ---- what a file gives
+pub atoms-proper : (s : List ℕ) → Every Proper (atomsOf s)
+atoms-proper s = every-atom (records s) (sound-reading false _)
 
--- number k of a mapped list is the image of number k
-pub record Image {A B : Type 0} (f : A → B) (l : List A) (k : ℕ) (b : B) : Type 0 where
-  pub item : A
-  pub tail : List A
-  pub is : drop k l ≡ item ∷ tail
-  pub image : b ≡ f item
-
-pub map-back : {A B : Type 0} (f : A → B) (l : List A) (k : ℕ) (b : B) (t : List B) → drop k (map f l) ≡ b ∷ t → Image f l k b
-map-back f [] zero b t e = absurd (let z : _≡_ {A = ℕ} 0 1 = cc in omega arith)
-map-back f [] (suc k) b t e = absurd (let z : _≡_ {A = ℕ} 0 1 = cc in omega arith)
-map-back f (y ∷ l) zero b t e =
-    let q : f y ≡ b = cc in
-    record { item = y; tail = l; is = refl; image = sym q }
-map-back f (y ∷ l) (suc k) b t e =
-    let m = map-back f l k b t e in
-    record { item = m .item; tail = m .tail; is = m .is; image = m .image }
-
--- ---- an atom of a file
-module _ (s : List ℕ) (k : ℕ) where
-  pub atom-proper : (a : AtomLine) (t : List AtomLine) → drop k (atomsOf s) ≡ a ∷ t → Proper a
-  atom-proper a t e = every-at Proper (atomsOf s) k a t (every-atom (records s) (sound-reading false _)) e
-
-  pub segment-proper : (g : SegmentLine) (t : List SegmentLine) → drop k (segmentsOf s) ≡ g ∷ t → g .kind ≤ 2
-  segment-proper g t e = every-at (λ (g : SegmentLine). g .kind ≤ 2) (segmentsOf s) k g t (every-segment (records s) (sound-reading false _)) e
-
-or-true : (a : Bool) → (a || true) ≡ true
-or-true true = refl
-or-true false = refl
-
-pub name-in : (l : List AtomLine) (k : ℕ) (a : AtomLine) (t : List AtomLine) → drop k l ≡ a ∷ t → (member (a .name) (names l) ≡ true) × (member (a .chain) (letters l) ≡ true)
-unfolding member
-name-in [] zero a t e = absurd (let z : _≡_ {A = ℕ} 0 1 = cc in omega arith)
-name-in [] (suc k) a t e = absurd (let z : _≡_ {A = ℕ} 0 1 = cc in omega arith)
-name-in (b ∷ l) zero a t e =
-    let q : b ≡ a = cc in
-    (rw (eq-eqb (a .name) (b .name) (ap (λ (c : AtomLine). c .name) (sym q))), rw (eq-eqb (a .chain) (b .chain) (ap (λ (c : AtomLine). c .chain) (sym q))))
-name-in (b ∷ l) (suc k) a t e =
-    let h = name-in l k a t e in
-    (rw (h .0) (or-true (eqb (a .name) (b .name))), rw (h .1) (or-true (eqb (a .chain) (b .chain))))
-
--- ---- and of the job's records
-pub atom-right : (s : List ℕ) (k : ℕ) (b : JobAtom) (t : List JobAtom) → drop k (map (toAtom (atomsOf s)) (atomsOf s)) ≡ b ∷ t → Right (chainsOf (atomsOf s)) (residuesOf (atomsOf s)) b
-unfolding member
-atom-right s k b t e =
-    let m = map-back (toAtom (atomsOf s)) (atomsOf s) k b t e in
-    let p = atom-proper s k (m .item) (m .tail) (m .is) in
-    let n = name-in (atomsOf s) k (m .item) (m .tail) (m .is) in
-    subst (Right (chainsOf (atomsOf s)) (residuesOf (atomsOf s))) (sym (m .image)) (record {
-      role = p .role;
-      residue = place-lt (m .item .name) (residueOrder (atomsOf s)) (member-distinct (m .item .name) [] (names (atomsOf s)) ∙ n .0);
-      chain = place-lt (m .item .chain) (chainOrder (atomsOf s)) (member-distinct (m .item .chain) [] (letters (atomsOf s)) ∙ n .1);
-      x = p .x;
-      y = p .y;
-      z = p .z;
-    })
-
-pub segment-right : (s : List ℕ) (k : ℕ) (b : JobSegment) (t : List JobSegment) → drop k (map (toSegment (atomsOf s)) (segmentsOf s)) ≡ b ∷ t → b .kind ≤ 2
-segment-right s k b t e =
-    let m = map-back (toSegment (atomsOf s)) (segmentsOf s) k b t e in
-    subst (λ (g : JobSegment). g .kind ≤ 2) (sym (m .image)) (segment-proper s k (m .item) (m .tail) (m .is))
+pub segments-kinded : (s : List ℕ) → Every Kinded (segmentsOf s)
+segments-kinded s = every-segment (records s) (sound-reading false _)

@@ -13,7 +13,7 @@ use Rattle.buffers.proofs.Puts.{kept, length-put, put-at, put-apart}
 use Rattle.job.specs.Search.{last}
 use Rattle.appearance.specs.Order.{member, place, numbered}
 use Rattle.appearance.specs.Index.{isKey, Keyed}
-use Rattle.appearance.proofs.Laws.{member-append}
+use Rattle.appearance.proofs.Laws.{or-true, or-no, member-append}
 use Rattle.appearance.proofs.Found.{last-taken}
 use Rattle.appearance.proofs.Numbers.{found-number, number-none, number-is, number-some}
 use Rattle.job_writer.specs.Job.{flat, segmentBytes, atomBytes}
@@ -50,10 +50,6 @@ no-last x (a ∷ l) m =
     let p = or-no (eqb x (a .name)) (member x (names l)) m in
     rw (no-last x l (p .1), ne-eqb (a .name) x (λ e. other (a .name) x e (p .0)))
   where
-    or-no : (a b : Bool) → (a || b) ≡ false → (a ≡ false) × (b ≡ false)
-    or-no true b e = absurd (let z : _≡_ {A = ℕ} 0 1 = cc in omega arith)
-    or-no false b e = (refl, e)
-
     other : (a b : ℕ) → a ≡ b → eqb b a ≡ false → ⊥
     other a b e q = let w : _≡_ {A = Bool} true false = sym (eq-eqb b a (sym e)) ∙ q in let z : _≡_ {A = ℕ} 0 1 = cc in omega arith
 
@@ -109,10 +105,6 @@ module _ (l g m r : List AtomLine) (e : g ≡ m ++ r) (N : Named l g) where
   named-on f y h =
       N f y (ap (λ (t : List AtomLine). member y (map f t)) e ∙ ap (member y) (map-append f m r) ∙ member-append y (map f m) (map f r)
       ∙ ap (λ (b : Bool). member y (map f m) || b) h ∙ or-true (member y (map f m)))
-    where
-      or-true : (a : Bool) → (a || true) ≡ true
-      or-true true = refl
-      or-true false = refl
 
   there : (f : AtomLine → ℕ) (a : AtomLine) → m ≡ a ∷ [] → member (f a) (map f l) ≡ true
   unfolding member

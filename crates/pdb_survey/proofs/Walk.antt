@@ -25,7 +25,7 @@ use Rattle.pdb_survey.specs.declared.Counts.{Counts}
 use Rattle.pdb_survey.proofs.Atoms.{letters-more}
 use Rattle.pdb_survey.proofs.Tables.{atom-full}
 
-clash : (b : Bool) → b ≡ true → b ≡ false → ⊥
+pub clash : (b : Bool) → b ≡ true → b ≡ false → ⊥
 clash b p q = let w : _≡_ {A = Bool} true false = sym p ∙ q in let z : _≡_ {A = ℕ} 0 1 = cc in omega arith
 
 -- ---- the tables with what one line gives
