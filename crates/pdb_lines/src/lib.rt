@@ -2,9 +2,9 @@
 ghost use mathlib.Core.Path.{_≡_};
 ghost use mathlib.Core.Bool.{true, false};
 ghost use Prim.Native.Nat.{_+_, _-_, _<_, _≤_};
-ghost use lib.ListN.{length, drop};
+ghost use lib.ListN.{length, take, drop};
 ghost use Rattle.pdb_lines.specs.Columns.{named};
-ghost use Rattle.pdb_lines.specs.Post.{ending, Cut};
+ghost use Rattle.pdb_lines.specs.Post.{ending, low, lows, Plain, Cut};
 
 // Where a line ends, and where the next one begins.
 pub struct Line {
@@ -33,12 +33,51 @@ fn ending_at(s: &[u8], i: usize) -> usize
     0
 }
 
+fn is_low(b: u8) -> u8
+    ensures { λ r. ⌜ (r ≡ low b) × (r ≤ 1) ⌝ }
+{
+    if 13 < b {
+        return 0;
+    }
+    1
+}
+
+// How many of the 16 bytes from `i` on are below 14, as LF and CR are. Counted without a branch, so that the machine compares all 16 at once.
+fn low_bytes(s: &[u8], i: usize) -> u8
+    requires { ⌜ i + 16 ≤ length (now s) ⌝ }
+    ensures { λ r. ⌜ r ≡ lows (take 16 (drop i (now (s .entry)))) ⌝ }
+{
+    let mut low = 0u8;
+    let mut k = 0usize;
+    while k < 16 {
+        low += is_low(s[i + k]);
+        k += 1;
+    }
+    low
+}
+
+// A place up to which no line ends.
+fn past_plain(s: &[u8], at: usize) -> usize
+    requires { ⌜ at ≤ length (now s) ⌝ }
+    ensures { λ r. ⌜ Plain (now (s .entry)) at r ⌝ }
+{
+    let mut i = at;
+    while 16 <= s.len() - i {
+        if low_bytes(s, i) == 0 {
+            i += 16;
+        } else {
+            return i;
+        }
+    }
+    i
+}
+
 // The line that starts at `at`.
 pub fn line_at(s: &[u8], at: usize) -> Line
     requires { ⌜ at < length (now s) ⌝ }
     ensures { λ r. ⌜ Cut (now (s .entry)) at (r .to) (r .next) ⌝ }
 {
-    let mut i = at;
+    let mut i = past_plain(s, at);
     while i < s.len() {
         let e = ending_at(s, i);
         if 0 < e {

@@ -4,7 +4,8 @@ use native.Mathlib.Omega.{arith}
 use lib.ListN.{length, take, drop}
 use borrow.Author.Needs.{needs}
 use Rattle.pdb_lines.specs.Lines.{lines}
-use Rattle.pdb_lines.proofs.Laws.{ontos, turn, found, over, start}
+use Rattle.pdb_lines.proofs.Laws.{ontos, turn, found, over}
+use Rattle.pdb_lines.proofs.Search.{plain-lines}
 use Rattle.pdb_lines.proofs.line_at.Statement.{statement}
 use Rattle.pdb_lines.proofs.line_at.Tie as tie
 
@@ -14,8 +15,12 @@ Inv-loop s at i₀ i = (at ≤ i) × (i ≤ length s) × (lines (drop at s) ≡ 
 abbrev μ-loop : tie.MeasureT-loop
 μ-loop s at i₀ i = length s - i
 
+past-plain-requires : tie.Need-past-plain-requires Inv-loop μ-loop
+past-plain-requires c κs = omega arith
+
 loop-holds : tie.Need-loop-holds Inv-loop μ-loop
-loop-holds c = (omega arith, omega arith, start (c .before .args .s .now) (c .before .args .at))
+loop-holds c = let P = c .past-plain .ensures in
+    (P .start, P .end, plain-lines _ _ _ P)
 
 ending-at-requires : tie.Need-ending-at-requires Inv-loop μ-loop
 ending-at-requires c κs = search needs
@@ -33,12 +38,11 @@ loop-less : tie.Need-loop-less Inv-loop μ-loop
 loop-less c = search needs
 
 loop-again : tie.Need-loop-again Inv-loop μ-loop
-loop-again c =
-    let z : c .before .ending-at .result ≡ 0 = omega arith in
+loop-again c = let z : (c .before .ending-at .result) ≡ 0 = omega arith in
     (omega arith, omega arith, turn _ _ _ (c .before .before .before .loop .inv .0) (c .before .before .loop-test .taken) (sym (c .before .ending-at .ensures .0) ∙ z) (c .before .before .before .loop .inv .2))
 
 returns-2 : tie.Need-returns-2 Inv-loop μ-loop
-returns-2 c = record { cut = over _ _ _ (c .before .before .before .pre) (c .loop-test .left) (c .before .loop .inv .2); start = omega arith; end = omega arith; onward = omega arith; within = omega arith }
+returns-2 c = record { cut = over _ _ _ (c .before .before .before .before .pre) (c .loop-test .left) (c .before .loop .inv .2); start = omega arith; end = omega arith; onward = omega arith; within = omega arith }
 
 pub line-at-spec : {M : Type 1} → statement M
 line-at-spec =
@@ -46,6 +50,7 @@ line-at-spec =
     (tie.spec
     Inv-loop
     μ-loop
+    past-plain-requires
     loop-holds
     ending-at-requires
     add-t7

@@ -1,0 +1,53 @@
+use Prim.Native.Nat.{_-_}
+use mathlib.Core.Path.{sym, _∙_}
+use native.Mathlib.Omega.{arith}
+use lib.ListN.{length}
+use Rattle.pdb_lines.specs.Post.{Plain}
+use Rattle.pdb_lines.proofs.Search.{plain-start, plain-more}
+use Rattle.pdb_lines.proofs.past_plain.Statement.{statement}
+use Rattle.pdb_lines.proofs.past_plain.Tie as tie
+
+abbrev Inv-loop : tie.InvT-loop
+Inv-loop s at i₀ i = Plain s at i
+
+abbrev μ-loop : tie.MeasureT-loop
+μ-loop s at i₀ i = length s - i
+
+loop-holds : tie.Need-loop-holds Inv-loop μ-loop
+loop-holds c = plain-start _ _ (c .before .pre)
+
+sub-loop : tie.Need-sub-loop Inv-loop μ-loop
+sub-loop c = omega (arith, c .loop .inv .end)
+
+low-bytes-requires : tie.Need-low-bytes-requires Inv-loop μ-loop
+low-bytes-requires c κs = omega (arith, c .loop-test .taken, c .before .loop .inv .end)
+
+add-i : tie.Need-add-i Inv-loop μ-loop
+add-i c = omega (arith, c .before .before .loop-test .taken, c .before .before .before .loop .inv .end)
+
+loop-less : tie.Need-loop-less Inv-loop μ-loop
+loop-less c = omega (arith, c .before .before .loop-test .taken, c .before .before .before .loop .inv .end)
+
+loop-again : tie.Need-loop-again Inv-loop μ-loop
+loop-again c = plain-more _ _ _ (c .before .before .before .loop .inv) (omega (arith, c .before .before .loop-test .taken, c .before .before .before .loop .inv .end)) (sym (c .before .low-bytes .ensures) ∙ c .if1 .taken)
+
+returns : tie.Need-returns Inv-loop μ-loop
+returns c = c .before .before .before .loop .inv
+
+returns-2 : tie.Need-returns-2 Inv-loop μ-loop
+returns-2 c = c .before .loop .inv
+
+pub past-plain-spec : {M : Type 1} → statement M
+past-plain-spec =
+    tie.close
+    (tie.spec
+    Inv-loop
+    μ-loop
+    loop-holds
+    sub-loop
+    low-bytes-requires
+    add-i
+    loop-less
+    loop-again
+    returns
+    returns-2)
