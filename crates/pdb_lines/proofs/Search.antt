@@ -1,63 +1,43 @@
 -- The search for a line's end, 16 bytes at a time. Assumes nothing.
 use Prim.Native.Nat.{ℕ, zero, suc, _+_, _-_, _<_, _≤_}
-use mathlib.Core.Bool.{Bool, true, false, cond}
-use mathlib.Core.Path.{_≡_, refl, sym, _∙_, subst}
-use mathlib.Core.List.{List, [], _∷_, _++_}
-use native.Mathlib.Numerals.{add-one}
+use mathlib.Core.Bool.{Bool, true, false}
+use mathlib.Core.Path.{_≡_, refl, sym, subst}
+use mathlib.Core.List.{List}
+use native.Mathlib.Nat.{le-trans}
 use native.Mathlib.Omega.{arith}
 use lib.Dec.{ltb}
-use lib.ListN.{length, take, drop, getD, length-take, length-drop}
-use lib.Seq.{getD-take, getD-drop, take-suc}
+use lib.ListN.{length, take, drop, getD}
 use borrow.Author.Tests.{ltb-true, ltb-false}
 use Rattle.pdb_lines.specs.Lines.{lines}
-use Rattle.pdb_lines.specs.Post.{ending, low, lows, Plain}
+use Rattle.pdb_lines.specs.Post.{ending, Plain}
 use Rattle.pdb_lines.proofs.Laws.{ontos, start, turn, ending-not}
 
-lows-more : (l : List ℕ) (b : ℕ) → lows (l ++ (b ∷ [])) ≡ lows l + low b
-unfolding lows
-lows-more [] b = omega arith
-lows-more (x ∷ l) b = omega (arith, lows-more l b)
-
-pub none-counted : 0 ≡ lows []
-unfolding lows
-none-counted = refl
-
--- one byte more is counted
-pub lows-turn : (s : List ℕ) (i k n d : ℕ) → i + k < length s → n ≡ lows (take k (drop i s)) → d ≡ low (getD s (i + k) 0) → n + d ≡ lows (take (k + 1) (drop i s))
-lows-turn s i k n d h e f =
-    let m : k < length (drop i s) = simp length-drop (omega arith) in
-    let t : take (k + 1) (drop i s) ≡ take k (drop i s) ++ (getD s (i + k) 0 ∷ []) = rw (add-one k, take-suc (drop i s) k 0, getD-drop) in
-    rw (e, f, t) (sym (lows-more (take k (drop i s)) (getD s (i + k) 0)))
-
--- where none is low, each is at least 14
-none-low : (l : List ℕ) → lows l ≡ 0 → (k : ℕ) → k < length l → 14 ≤ getD l k 0
-unfolding lows
-none-low [] e k h = absurd (omega arith)
-none-low (b ∷ l) e zero h = go (ltb b 14) refl e
+-- a bound of the first k bytes, and of one more
+pub bound-more : (s : List ℕ) (i k n m : ℕ) → ((j : ℕ) → j < k → n ≤ getD s (i + j) 0) → m ≤ n → m ≤ getD s (i + k) 0 → (j : ℕ) → j < k + 1 → m ≤ getD s (i + j) 0
+bound-more s i k n m h l b j q = go (ltb j k) refl
   where
-    go : (t : Bool) → ltb b 14 ≡ t → cond t 1 0 + lows l ≡ 0 → 14 ≤ b
-    go true q e = absurd (omega arith)
-    go false q e = ltb-false b 14 q
-none-low (b ∷ l) e (suc k) h = none-low l (omega arith) k (omega arith)
+    go : (t : Bool) → ltb j k ≡ t → m ≤ getD s (i + j) 0
+    go true e = le-trans l (h j (ltb-true j k e))
+    go false e =
+        let z : k ≡ j = omega (arith, ltb-false j k e) in
+        subst (λ (x : ℕ). m ≤ getD s (i + x) 0) z b
 
 pub plain-start : (s : List ℕ) (at : ℕ) → at ≤ length s → Plain s at at
 plain-start s at h = record { start = omega arith; end = h; none = λ k l r. absurd (omega arith) }
 
 -- 16 places more
-pub plain-more : (s : List ℕ) (at i : ℕ) → Plain s at i → i + 16 ≤ length s → lows (take 16 (drop i s)) ≡ 0 → Plain s at (i + 16)
-plain-more s at i P h e = record { start = omega (arith, P .start); end = h; none = λ k l r. go k l r (ltb k i) refl }
+pub plain-more : (s : List ℕ) (at i n : ℕ) → Plain s at i → i + 16 ≤ length s → ((k : ℕ) → k < 16 → n ≤ getD s (i + k) 0) → 13 < n → Plain s at (i + 16)
+plain-more s at i n P h b g = record { start = omega (arith, P .start); end = h; none = λ k l r. go k l r (ltb k i) refl }
   where
-    there : (k : ℕ) → i ≤ k → k < i + 16 → 14 ≤ getD s k 0
+    there : (k : ℕ) → i ≤ k → k < i + 16 → n ≤ getD s k 0
     there k l r =
         let j : i + (k - i) ≡ k = omega arith in
-        subst (λ (m : ℕ). 14 ≤ getD s m 0) j
-        (subst (λ (b : ℕ). 14 ≤ b) (getD-take 16 (drop i s) (k - i) 0 (omega arith) ∙ getD-drop i s (k - i) 0)
-        (none-low (take 16 (drop i s)) e (k - i) (simp (length-take, length-drop) (omega arith))))
+        subst (λ (m : ℕ). n ≤ getD s m 0) j (b (k - i) (omega arith))
 
-    go : (k : ℕ) → at ≤ k → k < i + 16 → (b : Bool) → ltb k i ≡ b → ending (drop k s) ≡ 0
+    go : (k : ℕ) → at ≤ k → k < i + 16 → (t : Bool) → ltb k i ≡ t → ending (drop k s) ≡ 0
     go k l r true q = P .none k l (ltb-true k i q)
     go k l r false q =
-        let b = there k (ltb-false k i q) r in
+        let d = there k (ltb-false k i q) r in
         sym (ending-not s k (omega arith) (λ z. absurd (omega arith)) (λ z. absurd (omega arith)))
 
 -- where no line ends, the bytes stand in front of the line that follows

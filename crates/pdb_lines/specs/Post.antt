@@ -1,9 +1,9 @@
 -- What the end of a line, a search for it, and a cut of a line, promise.
-use Prim.Native.Nat.{ℕ, _+_, _-_, _≤_, _<_}
+use Prim.Native.Nat.{ℕ, _-_, _≤_, _<_}
 use mathlib.Core.List.{List, [], _∷_}
 use mathlib.Core.Bool.{_&&_, cond}
 use mathlib.Core.Path.{_≡_}
-use lib.Dec.{eqb, ltb}
+use lib.Dec.{eqb}
 use lib.ListN.{length, take, drop}
 use Rattle.pdb_lines.specs.Lines.{lines, atLf}
 
@@ -11,15 +11,6 @@ use Rattle.pdb_lines.specs.Lines.{lines, atLf}
 abbrev pub ending : List ℕ → ℕ
 ending [] = 0
 ending (b ∷ s) = cond (eqb b 10) 1 (cond (eqb b 13 && atLf s) 2 0)
-
--- 1 for a byte below 14, as LF and CR are
-abbrev pub low : ℕ → ℕ
-low b = cond (ltb b 14) 1 0
-
--- how many such bytes there are
-unfoldable pub lows : List ℕ → ℕ
-lows [] = 0
-lows (b ∷ l) = low b + lows l
 
 -- from place at up to place i no line ends
 pub record Plain (s : List ℕ) (at i : ℕ) : Type 0 where

@@ -1,10 +1,10 @@
 // Lines and columns of a text file.
 ghost use mathlib.Core.Path.{_≡_};
 ghost use mathlib.Core.Bool.{true, false};
-ghost use Prim.Native.Nat.{_+_, _-_, _<_, _≤_};
-ghost use lib.ListN.{length, take, drop};
+ghost use Prim.Native.Nat.{ℕ, _+_, _-_, _<_, _≤_};
+ghost use lib.ListN.{length, drop, getD};
 ghost use Rattle.pdb_lines.specs.Columns.{named};
-ghost use Rattle.pdb_lines.specs.Post.{ending, low, lows, Plain, Cut};
+ghost use Rattle.pdb_lines.specs.Post.{ending, Plain, Cut};
 
 // Where a line ends, and where the next one begins.
 pub struct Line {
@@ -33,37 +33,37 @@ fn ending_at(s: &[u8], i: usize) -> usize
     0
 }
 
-fn is_low(b: u8) -> u8
-    ensures { λ r. ⌜ (r ≡ low b) × (r ≤ 1) ⌝ }
+fn lesser(a: u8, b: u8) -> u8
+    ensures { λ r. ⌜ (r ≤ a) × (r ≤ b) ⌝ }
 {
-    if 13 < b {
-        return 0;
+    if b < a {
+        return b;
     }
-    1
+    a
 }
 
-// How many of the 16 bytes from `i` on are below 14, as LF and CR are. Counted without a branch, so that the machine compares all 16 at once.
-fn low_bytes(s: &[u8], i: usize) -> u8
+// A bound of the 16 bytes from `i` on: none is below it. They are all read, whatever stands there, so that the machine compares 16 at once.
+fn least_byte(s: &[u8], i: usize) -> u8
     requires { ⌜ i + 16 ≤ length (now s) ⌝ }
-    ensures { λ r. ⌜ r ≡ lows (take 16 (drop i (now (s .entry)))) ⌝ }
+    ensures { λ r. ⌜ ((k : ℕ) → k < 16 → r ≤ getD (now (s .entry)) (i + k) 0) ⌝ }
 {
-    let mut low = 0u8;
+    let mut least = 255u8;
     let mut k = 0usize;
     while k < 16 {
-        low += is_low(s[i + k]);
+        least = lesser(least, s[i + k]);
         k += 1;
     }
-    low
+    least
 }
 
-// A place up to which no line ends.
+// A place up to which no line ends: LF and CR, which are 10 and 13, are not among the bytes before it.
 fn past_plain(s: &[u8], at: usize) -> usize
     requires { ⌜ at ≤ length (now s) ⌝ }
     ensures { λ r. ⌜ Plain (now (s .entry)) at r ⌝ }
 {
     let mut i = at;
     while 16 <= s.len() - i {
-        if low_bytes(s, i) == 0 {
+        if 13 < least_byte(s, i) {
             i += 16;
         } else {
             return i;

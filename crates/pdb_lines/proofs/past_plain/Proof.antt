@@ -1,5 +1,4 @@
 use Prim.Native.Nat.{_-_}
-use mathlib.Core.Path.{sym, _∙_}
 use native.Mathlib.Omega.{arith}
 use lib.ListN.{length}
 use Rattle.pdb_lines.specs.Post.{Plain}
@@ -19,8 +18,8 @@ loop-holds c = plain-start _ _ (c .before .pre)
 sub-loop : tie.Need-sub-loop Inv-loop μ-loop
 sub-loop c = omega (arith, c .loop .inv .end)
 
-low-bytes-requires : tie.Need-low-bytes-requires Inv-loop μ-loop
-low-bytes-requires c κs = omega (arith, c .loop-test .taken, c .before .loop .inv .end)
+least-byte-requires : tie.Need-least-byte-requires Inv-loop μ-loop
+least-byte-requires c κs = omega (arith, c .loop-test .taken, c .before .loop .inv .end)
 
 add-i : tie.Need-add-i Inv-loop μ-loop
 add-i c = omega (arith, c .before .before .loop-test .taken, c .before .before .before .loop .inv .end)
@@ -29,7 +28,7 @@ loop-less : tie.Need-loop-less Inv-loop μ-loop
 loop-less c = omega (arith, c .before .before .loop-test .taken, c .before .before .before .loop .inv .end)
 
 loop-again : tie.Need-loop-again Inv-loop μ-loop
-loop-again c = plain-more _ _ _ (c .before .before .before .loop .inv) (omega (arith, c .before .before .loop-test .taken, c .before .before .before .loop .inv .end)) (sym (c .before .low-bytes .ensures) ∙ c .if1 .taken)
+loop-again c = plain-more _ _ _ _ (c .before .before .before .loop .inv) (omega (arith, c .before .before .loop-test .taken, c .before .before .before .loop .inv .end)) (c .before .least-byte .ensures) (c .if1 .taken)
 
 returns : tie.Need-returns Inv-loop μ-loop
 returns c = c .before .before .before .loop .inv
@@ -45,7 +44,7 @@ past-plain-spec =
     μ-loop
     loop-holds
     sub-loop
-    low-bytes-requires
+    least-byte-requires
     add-i
     loop-less
     loop-again

@@ -1,0 +1,52 @@
+use Prim.Native.Nat.{ℕ, _+_, _≤_, _<_, _-_}
+use native.Mathlib.Omega.{arith}
+use lib.ListN.{getD}
+use borrow.Author.Needs.{needs}
+use Rattle.pdb_lines.proofs.Search.{bound-more}
+use Rattle.pdb_lines.proofs.least_byte.Statement.{statement}
+use Rattle.pdb_lines.proofs.least_byte.Tie as tie
+
+abbrev Inv-loop : tie.InvT-loop
+Inv-loop s i least₀ k₀ least k = (k ≤ 16) × ((j : ℕ) → j < k → least ≤ getD s (i + j) 0)
+
+abbrev μ-loop : tie.MeasureT-loop
+μ-loop s i least₀ k₀ least k = 16 - k
+
+loop-holds : tie.Need-loop-holds Inv-loop μ-loop
+loop-holds c = (omega arith, λ j h. absurd (omega arith))
+
+add-lesser : tie.Need-add-lesser Inv-loop μ-loop
+add-lesser c = search needs
+
+shared-slice-read-lesser : tie.Need-shared-slice-read-lesser Inv-loop μ-loop
+shared-slice-read-lesser c = search needs
+
+lesser-requires : tie.Need-lesser-requires Inv-loop μ-loop
+lesser-requires c κs = search needs
+
+add-k : tie.Need-add-k Inv-loop μ-loop
+add-k c = search needs
+
+loop-less : tie.Need-loop-less Inv-loop μ-loop
+loop-less c = search needs
+
+loop-again : tie.Need-loop-again Inv-loop μ-loop
+loop-again c = (omega arith, bound-more (c .before .before .before .before .before .args .s .now) (c .before .before .before .before .before .args .i) (c .before .before .before .loop .k) _ _ (c .before .before .before .loop .inv .1) (c .lesser .ensures .0) (c .lesser .ensures .1))
+
+returns : tie.Need-returns Inv-loop μ-loop
+returns c = λ k h. c .before .loop .inv .1 k (omega (arith, c .loop-test .left))
+
+pub least-byte-spec : {M : Type 1} → statement M
+least-byte-spec =
+    tie.close
+    (tie.spec
+    Inv-loop
+    μ-loop
+    loop-holds
+    add-lesser
+    shared-slice-read-lesser
+    lesser-requires
+    add-k
+    loop-less
+    loop-again
+    returns)
