@@ -403,21 +403,46 @@ fn tight_end(rng: &mut Rng, lines: &mut [Vec<u8>]) {
     lines[at].push(b'\r');
 }
 
-/// Many residues of one atom each, so that their number is at its limit or past it.
+/// Many residues of one atom each, so that their number is at its limit or past it, with segments before and after them that name early residues, late
+/// ones, and at times one that is absent; at times an atom's line is damaged.
 fn many_residues(rng: &mut Rng) -> Vec<u8> {
-    let count = rng.pick(&[16_384, 16_384, 16_385, 16_390]);
-    let mut file = Vec::with_capacity(56 * count);
+    let count: u64 = rng.pick(&[16_384, 16_385, 16_385, 16_390]);
+    let residue = |i: u64| Residue {
+        chain: b'A' + (i / 9000) as u8,
+        number: (i % 9000) as i64,
+        insertion: b' ',
+    };
+    let mut lines = Vec::with_capacity(count as usize + 12);
+    let segments = |rng: &mut Rng, lines: &mut Vec<Vec<u8>>| {
+        for _ in 0..rng.below(6) {
+            let mut end = || match rng.below(12) {
+                0 => residue(count + rng.below(9)),
+                1..=6 => residue(rng.between(16_380, count - 1)),
+                _ => residue(rng.below(count)),
+            };
+            let (from, to) = (end(), end());
+            let helix = rng.percent(50);
+            lines.push(segment_line(rng, helix, &from, &to));
+        }
+    };
+    segments(rng, &mut lines);
+    let first = lines.len();
     for i in 0..count {
-        let (chain, number) = (b'A' + (i / 9000) as u8, i % 9000);
-        file.extend(
+        let r = residue(i);
+        lines.push(
             format!(
-                "ATOM  {i:>5}  CA  GLY {}{number:>4}       1.000   2.000   3.000\n",
-                chain as char
+                "ATOM  {i:>5}  CA  GLY {}{:>4}       1.000   2.000   3.000",
+                r.chain as char, r.number
             )
-            .bytes(),
+            .into_bytes(),
         );
     }
-    file
+    if rng.percent(25) {
+        let at = first + rng.below(count) as usize;
+        damage_line(rng, &mut lines[at]);
+    }
+    segments(rng, &mut lines);
+    lines.join(&b'\n')
 }
 
 /// Each letter that a column can hold: every byte but LF.
