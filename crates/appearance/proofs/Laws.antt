@@ -1,14 +1,12 @@
 -- Laws of numbering by first appearance. Assumes nothing.
-use Prim.Native.Nat.{ℕ, zero, suc, _+_, _<_, _≤_}
+use Prim.Native.Nat.{ℕ, zero, suc, _<_, _≤_}
 use mathlib.Core.Bool.{Bool, true, false, _||_, cond}
 use mathlib.Core.Path.{_≡_, refl, sym, ap, _∙_, subst}
 use mathlib.Core.List.{List, [], _∷_, _++_, append-assoc}
-use native.Mathlib.Numerals.{add-one}
 use native.Mathlib.Omega.{arith}
-use lib.Dec.{eqb, ltb}
-use lib.ListN.{length, take, drop, getD, length-append, take-append-drop}
-use lib.Seq.{take-suc}
-use borrow.Author.Tests.{eqb-true, eq-eqb, lt-ltb, le-ltb, ltb-true, ltb-false}
+use lib.Dec.{eqb}
+use lib.ListN.{length, getD, length-append}
+use borrow.Author.Tests.{eqb-true, eq-eqb}
 use Rattle.appearance.specs.Order.{member, place, add, distinct, order}
 
 or-assoc : (a b c : Bool) → ((a || b) || c) ≡ (a || (b || c))
@@ -78,11 +76,11 @@ place-new x (y ∷ a) b m = go (eqb x y) m (λ m. place-new x a b m)
     go false m f = ap suc (f m)
 
 -- what is seen stays in front
-extra : List ℕ → List ℕ → List ℕ
+pub extra : List ℕ → List ℕ → List ℕ
 extra s [] = []
 extra s (x ∷ l) = cond (member x s) (extra s l) (x ∷ extra (s ++ (x ∷ [])) l)
 
-distinct-front : (s l : List ℕ) → distinct s l ≡ s ++ extra s l
+pub distinct-front : (s l : List ℕ) → distinct s l ≡ s ++ extra s l
 unfolding distinct extra
 distinct-front s [] = sym (nil s)
   where
@@ -99,69 +97,6 @@ distinct-front s (x ∷ l) = go (member x s) (distinct-front s l) (distinct-fron
 -- more keys in a list, no fewer in its order
 pub order-grows : (a b : List ℕ) → length (order a) ≤ length (order (a ++ b))
 order-grows a b = rw (distinct-append [] a b, distinct-front (order a) b, length-append) (omega arith)
-
--- a key is among the first k exactly when its first place is below k
-pub member-place : (x : ℕ) (l : List ℕ) (k : ℕ) → k ≤ length l → member x (take k l) ≡ ltb (place x l) k
-unfolding member place
-member-place x l zero h = sym (le-ltb (place x l) 0 (omega arith))
-member-place x [] (suc k) h = absurd (omega arith)
-member-place x (y ∷ l) (suc k) h = go (eqb x y) (member-place x l k (omega arith))
-  where
-    more : (p : ℕ) (b : Bool) → ltb p k ≡ b → b ≡ ltb (suc p) (suc k)
-    more p true e = sym (lt-ltb (suc p) (suc k) (omega (arith, ltb-true p k e)))
-    more p false e = sym (le-ltb (suc p) (suc k) (omega (arith, ltb-false p k e)))
-
-    go : (b : Bool) → member x (take k l) ≡ ltb (place x l) k → (b || member x (take k l)) ≡ ltb (cond b 0 (suc (place x l))) (suc k)
-    go true e = sym (lt-ltb 0 (suc k) (omega arith))
-    go false e = e ∙ more (place x l) (ltb (place x l) k) refl
-
--- ---- the key at index k, among the keys l
-module _ (l : List ℕ) (k x : ℕ) (h : k < length l) (at : getD l k 0 ≡ x) where
-  taken : take (k + 1) l ≡ take k l ++ (x ∷ [])
-  taken = rw (add-one, take-suc l k 0, at)
-
-  -- it joins what was seen
-  pub seen-more : order (take (k + 1) l) ≡ add (order (take k l)) x
-  unfolding distinct
-  seen-more = ap order taken ∙ distinct-append [] (take k l) (x ∷ [])
-
-  all-is : order l ≡ distinct (add (order (take k l)) x) (drop (k + 1) l)
-  unfolding distinct
-  all-is =
-      ap order (sym (take-append-drop (k + 1) l)) ∙ distinct-append [] (take (k + 1) l) (drop (k + 1) l)
-      ∙ ap (λ (s : List ℕ). distinct s (drop (k + 1) l)) seen-more
-
-  among : member x (order (take k l)) ≡ member x (take k l)
-  unfolding member
-  among = member-distinct x [] (take k l)
-
-  pub member-after : (y : ℕ) → member y (take (k + 1) l) ≡ (member y (take k l) || eqb y x)
-  unfolding member
-  member-after y = ap (member y) taken ∙ member-append y (take k l) (x ∷ []) ∙ ap (λ (t : Bool). member y (take k l) || t) (or-false (eqb y x))
-
-  -- a new key has the next number
-  pub new-number : member x (take k l) ≡ false → place x (order l) ≡ length (order (take k l))
-  new-number m =
-      let e : order l ≡ (order (take k l) ++ (x ∷ [])) ++ extra (order (take k l) ++ (x ∷ [])) (drop (k + 1) l)
-      = all-is ∙ ap (λ (b : Bool). distinct (cond b (order (take k l)) (order (take k l) ++ (x ∷ []))) (drop (k + 1) l)) (among ∙ m)
-      ∙ distinct-front (order (take k l) ++ (x ∷ [])) (drop (k + 1) l) in
-      ap (place x) (e ∙ append-assoc (order (take k l)) (x ∷ []) (extra (order (take k l) ++ (x ∷ [])) (drop (k + 1) l)))
-      ∙ place-new x (order (take k l)) (extra (order (take k l) ++ (x ∷ [])) (drop (k + 1) l)) (among ∙ m)
-
-  pub new-count : member x (take k l) ≡ false → length (order (take (k + 1) l)) ≡ length (order (take k l)) + 1
-  new-count m =
-      ap length (seen-more ∙ ap (λ (b : Bool). cond b (order (take k l)) (order (take k l) ++ (x ∷ []))) (among ∙ m)) ∙ simp length-append
-
-  pub old-count : member x (take k l) ≡ true → length (order (take (k + 1) l)) ≡ length (order (take k l))
-  old-count m = ap length (seen-more ∙ ap (λ (b : Bool). cond b (order (take k l)) (order (take k l) ++ (x ∷ []))) (among ∙ m))
-
-  -- 1 for a new key, 0 for an old one
-  pub fresh-count : (f : ℕ) → f ≡ cond (member x (take k l)) 0 1 → length (order (take (k + 1) l)) ≡ length (order (take k l)) + f
-  fresh-count f e = go (member x (take k l)) refl e
-    where
-      go : (b : Bool) → member x (take k l) ≡ b → f ≡ cond b 0 1 → length (order (take (k + 1) l)) ≡ length (order (take k l)) + f
-      go true m e = omega (arith, old-count m)
-      go false m e = omega (arith, new-count m)
 
 -- ---- places
 pub place-lt : (x : ℕ) (l : List ℕ) → member x l ≡ true → place x l < length l
@@ -187,8 +122,3 @@ unfolding member
 member-at [] k h = absurd (omega arith)
 member-at (y ∷ l) zero h = simp (eq-eqb y y refl)
 member-at (y ∷ l) (suc k) h = ap (λ (b : Bool). eqb (getD l k 0) y || b) (member-at l k (omega arith)) ∙ or-true (eqb (getD l k 0) y)
-
--- a key of the list has a number below the count
-pub number-lt : (l : List ℕ) (k x : ℕ) → k < length l → getD l k 0 ≡ x → place x (order l) < length (order l)
-unfolding member
-number-lt l k x h e = place-lt x (order l) (member-distinct x [] l ∙ subst (λ (y : ℕ). member y l ≡ true) e (member-at l k h))

@@ -1,3 +1,4 @@
 pub mod Laws
 pub mod Found
 pub mod Numbers
+pub mod Theorems

@@ -25,10 +25,6 @@ pub len64 : (n : ℕ) → length (u64 n) ≡ 8
 unfolding u16 u32 u64
 len64 n = refl
 
-pub len-point : (x y z : ℕ) → length (point x y z) ≡ 24
-unfolding u16 u32 u64 point
-len-point x y z = refl
-
 -- xs is written, w long, and what comes after it
 pub seq : (l b : List ℕ) (i j w : ℕ) (xs ys : List ℕ) {b′ : List ℕ} → length xs ≡ w → j ≡ i + w → b ≡ put l i xs → b′ ≡ put b j ys → b′ ≡ put l i (xs ++ ys)
 seq l b i j w xs ys q h e e′ = next l b i j xs ys e′ e (h ∙ ap (λ (n : ℕ). i + n) (sym q))

@@ -11,14 +11,15 @@ use Rattle.job.specs.Check.{check}
 use Rattle.job.specs.declared.Head.{Head}
 use Rattle.job.specs.declared.Checked.the-variants.{Fine}
 use Rattle.appearance.specs.Order.{member}
-use Rattle.appearance.proofs.Laws.{or-true, place-lt, member-distinct}
+use Rattle.appearance.proofs.Laws.{or-true}
+use Rattle.appearance.proofs.Theorems.{below-count}
 use Rattle.job_writer.specs.declared.JobAtom.{JobAtom}
 use Rattle.job_writer.specs.declared.JobSegment.{JobSegment}
 use Rattle.job_writer.proofs.Fine.{Placed, Right, written-fine}
 use Rattle.pdb_records.specs.declared.AtomLine.{AtomLine}
 use Rattle.pdb_records.specs.declared.SegmentLine.{SegmentLine}
 use Rattle.pdb_reading.specs.Reading.{names, letters}
-use Rattle.pdb_reader.specs.Structure.{Structure, toAtom, toSegment, chainsOf, residuesOf, residueOrder, chainOrder, jobOf}
+use Rattle.pdb_reader.specs.Structure.{Structure, toAtom, toSegment, chainsOf, residuesOf, jobOf}
 use Rattle.pdb_reader.specs.Call.{pastLimits}
 use Rattle.pdb_reader.proofs.Answers.{limited}
 
@@ -82,14 +83,13 @@ kth-in f (b ∷ l) (suc k) a t e = rw (kth-in f l k a t e) (or-true (eqb (f a) (
 -- ---- the job's records
 module _ (ats : List AtomLine) (P : Every Proper ats) where
   atom-right : (k : ℕ) (b : JobAtom) (t : List JobAtom) → drop k (map (toAtom ats) ats) ≡ b ∷ t → Right (chainsOf ats) (residuesOf ats) b
-  unfolding member
   atom-right k b t e =
       let m = map-back (toAtom ats) ats k b t e in
       let p = every-at Proper ats k (m .item) (m .tail) P (m .is) in
       subst (Right (chainsOf ats) (residuesOf ats)) (sym (m .image)) (record {
         role = p .role;
-        residue = place-lt (m .item .name) (residueOrder ats) (member-distinct (m .item .name) [] (names ats) ∙ kth-in (λ (a : AtomLine). a .name) ats k (m .item) (m .tail) (m .is));
-        chain = place-lt (m .item .chain) (chainOrder ats) (member-distinct (m .item .chain) [] (letters ats) ∙ kth-in (λ (a : AtomLine). a .chain) ats k (m .item) (m .tail) (m .is));
+        residue = below-count (m .item .name) (names ats) (kth-in (λ (a : AtomLine). a .name) ats k (m .item) (m .tail) (m .is));
+        chain = below-count (m .item .chain) (letters ats) (kth-in (λ (a : AtomLine). a .chain) ats k (m .item) (m .tail) (m .is));
         x = p .x;
         y = p .y;
         z = p .z;
