@@ -28,6 +28,7 @@ use Rattle.pdb_survey.specs.declared.Counts.{Counts}
 use Rattle.pdb_survey.specs.declared.Overview.{Overview}
 use Rattle.pdb_reader.specs.Counted.{Counted}
 use Rattle.pdb_reader.proofs.AtFault.{clean-is}
+use Rattle.pdb_reader.proofs.Wanted.{empty-index}
 use Rattle.pdb_reader.specs.Structure.{Structure, chainsOf, residuesOf, sizeOf, toSegment, toAtom, jobOf, structureOf}
 use Rattle.pdb_reader.specs.Call.{pastLimits, byFault, readChecks, readAnswer, readBy, bufferAfter}
 use Rattle.pdb_reader.specs.declared.Read.{Read}
@@ -137,13 +138,7 @@ unfolding last distinct member numbered
 empty-tables = noted-whole _ _ _ _ _ [] refl (record {
   atoms = refl;
   residues = record {
-    index = record {
-      keys-size = length-replicate {A = ℕ} 16384 0;
-      links-size = length-replicate {A = ℕ} 32768 0;
-      few = omega arith;
-      head = λ h l. getD-replicate {A = ℕ} 32768 h 0 0 (omega arith);
-      link = λ i l. absurd (omega arith);
-    };
+    index = empty-index (replicate 16384 0) (length-replicate {A = ℕ} 16384 0);
     keyed = record { count = refl; key = λ i l. absurd (omega arith) };
     size = length-replicate {A = ℕ} 32768 0;
     first = λ i l. absurd (omega arith);

@@ -4,13 +4,13 @@ use mathlib.Core.Bool.{Bool, true, false, cond}
 use mathlib.Core.Path.{_≡_, refl, sym, ap, _∙_}
 use mathlib.Core.List.{List, [], _∷_}
 use native.Mathlib.Omega.{arith}
-use lib.ListN.{length, getD}
-use borrow.Author.Tests.{eqb-true}
+use lib.ListN.{length}
+use lib.Dec.{ltb}
+use borrow.Author.Tests.{ltb-true, ltb-false}
 use Rattle.job.specs.Search.{last}
-use Rattle.appearance.specs.Order.{member}
-use Rattle.appearance.specs.Index.{isKey}
-use Rattle.appearance.proofs.Found.{last-taken}
-use Rattle.appearance.proofs.Numbers.{found-number, number-none}
+use Rattle.appearance.specs.Order.{numbered}
+use Rattle.appearance.specs.Index.{isKey, Keyed}
+use Rattle.appearance.proofs.Numbers.{found-number, number-none, number-some}
 use Rattle.pdb_records.specs.declared.AtomLine.{AtomLine}
 use Rattle.pdb_records.specs.declared.Record.{Record}
 use Rattle.pdb_records.specs.declared.Record.the-variants.{Skipped, Short, BadNumber, AnAtom, ASegment}
@@ -19,22 +19,18 @@ use Rattle.pdb_reading.specs.Faults.{firstAtom, isFound, faultOf, faults, first
 use Rattle.pdb_reading.specs.declared.Fault.{Fault}
 use Rattle.pdb_reading.specs.declared.Fault.the-variants.{Clean, LineShort, LineWrong, NoResidue}
 use Rattle.pdb_survey.specs.Lines.{ownFault, ownFaults, ahead, counted}
-use Rattle.pdb_survey.specs.Tables.{Known}
 use Rattle.pdb_survey.proofs.Atoms.{found-member}
 
--- ---- a residue by the tables
-module _ (keys links : List ℕ) (n : ℕ) (more : Bool) (l : List AtomLine) (K : Known keys links n more (names l)) (x p : ℕ) (e : p ≡ last (isKey keys x) n) where
-  -- a key that is found is among the names
-  pub found-there : 0 < p → p ≤ n → true ≡ isFound (firstAtom x l)
-  unfolding isKey
-  found-there h low =
-      let z : last (isKey keys x) n ≡ suc (p - 1) = omega (arith, e) in
-      let k : getD keys (p - 1) 0 ≡ x = eqb-true (getD keys (p - 1) 0) x (last-taken (isKey keys x) n (p - 1) z) in
-      sym (found-member x l ∙ ap (λ (y : ℕ). member y (names l)) (sym k) ∙ K .among (p - 1) (omega arith))
+-- ---- a residue by the tables: its key is found exactly when its name is there
+pub found-is : (keys : List ℕ) (n : ℕ) (l : List AtomLine) → Keyed keys n (names l) → (x p : ℕ) → p ≡ last (isKey keys x) n → ltb 0 p ≡ isFound (firstAtom x l)
+found-is keys n l K x p e = go (ltb 0 p) refl
+  where
+    z : p ≡ numbered (names l) x
+    z = e ∙ found-number keys (names l) n x K
 
-  -- one that is not found is not among them, unless there are more
-  pub found-not : p ≤ 0 → more ≡ false → false ≡ isFound (firstAtom x l)
-  found-not h m = sym (found-member x l ∙ number-none (names l) x (sym (found-number keys (names l) n x (K .all m)) ∙ sym e ∙ omega arith))
+    go : (b : Bool) → ltb 0 p ≡ b → b ≡ isFound (firstAtom x l)
+    go true q = sym (found-member x l ∙ number-some (names l) x (omega (arith, z, ltb-true 0 p q)))
+    go false q = sym (found-member x l ∙ number-none (names l) x (omega (arith, z, ltb-false 0 p q)))
 
 -- ---- the first line at fault, line by line
 pub clean-is : (f : Fault) → isClean f ≡ true → f ≡ Clean

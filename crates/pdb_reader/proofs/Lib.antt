@@ -1,4 +1,5 @@
 pub mod AtFault
+pub mod Wanted
 pub mod Writing
 pub mod Answers
 pub mod Passes

@@ -2,3 +2,4 @@ pub mod Structure
 pub mod Call
 pub mod Counted
 pub mod Parts
+pub mod Wanted

@@ -1,45 +1,26 @@
-// The first line at fault, found with the tables of a survey.
+// The first line at fault, found with the tables of a survey that hold all residues of the file.
 use pdb_reading::Fault;
 use pdb_reading::Next;
 use pdb_records::Record;
 ghost use mathlib.Core.Path.{_≡_};
+ghost use mathlib.Core.List.{List};
+ghost use Rattle.appearance.specs.Index.{Index, Keyed};
+ghost use Rattle.pdb_records.specs.declared.AtomLine.{AtomLine};
 ghost use Rattle.pdb_reading.specs.Reading.{records, atomsOf, names};
 ghost use Rattle.pdb_reading.specs.Faults.{firstAtom, isFound, faultOf, faultIn};
 ghost use Rattle.pdb_survey.specs.Lines.{ownFaults, ahead};
-ghost use Rattle.pdb_survey.specs.Tables.{Known};
 
-// Whether the file has an atom of this residue. Where the tables do not hold all residues, one that they lack is looked for in the file.
-fn is_present(
-    s: &[u8],
-    keys: &[u64; 16384],
-    links: &[usize; 32768],
-    n: usize,
-    more: bool,
-    name: u64,
-) -> bool
-    requires { ⌜ Known (now keys) (now links) n more (names (atomsOf (now s))) ⌝ }
-    ensures { λ r. ⌜ r ≡ isFound (firstAtom name (atomsOf (now (s .entry)))) ⌝ }
+// Whether there is an atom of this residue: the tables hold all residues.
+fn is_present(keys: &[u64; 16384], links: &[usize; 32768], n: usize, name: u64) -> bool
+    requires { ⌜ Index (now keys) (now links) n ⌝ }
+    ensures { λ r. ⌜ ((l : List AtomLine) → Keyed (now (keys .entry)) n (names l) → r ≡ isFound (firstAtom name l)) ⌝ }
 {
-    if 0 < appearance::find(keys, links, n, name) {
-        return true;
-    }
-    if more {
-        return pdb_reading::is_present(s, name);
-    }
-    false
+    0 < appearance::find(keys, links, n, name)
 }
 
-fn fault_of(
-    s: &[u8],
-    keys: &[u64; 16384],
-    links: &[usize; 32768],
-    n: usize,
-    more: bool,
-    line: usize,
-    r: Record,
-) -> Fault
-    requires { ⌜ Known (now keys) (now links) n more (names (atomsOf (now s))) ⌝ }
-    ensures { λ f. ⌜ f ≡ faultOf (atomsOf (now (s .entry))) line r ⌝ }
+fn fault_of(keys: &[u64; 16384], links: &[usize; 32768], n: usize, line: usize, r: Record) -> Fault
+    requires { ⌜ Index (now keys) (now links) n ⌝ }
+    ensures { λ f. ⌜ ((l : List AtomLine) → Keyed (now (keys .entry)) n (names l) → f ≡ faultOf l line r) ⌝ }
 {
     match r {
         Record::Skipped => Fault::Clean,
@@ -47,8 +28,8 @@ fn fault_of(
         Record::BadNumber => Fault::LineWrong(line),
         Record::AnAtom(_) => Fault::Clean,
         Record::ASegment(g) => {
-            if is_present(s, keys, links, n, more, g.start) {
-                if is_present(s, keys, links, n, more, g.end) {
+            if is_present(keys, links, n, g.start) {
+                if is_present(keys, links, n, g.end) {
                     return Fault::Clean;
                 }
             }
@@ -63,11 +44,10 @@ pub fn find_fault(
     keys: &[u64; 16384],
     links: &[usize; 32768],
     n: usize,
-    more: bool,
     own: Fault,
     segments: usize,
 ) -> Fault
-    requires { ⌜ (Known (now keys) (now links) n more (names (atomsOf (now s)))) × (own ≡ ownFaults 1 (records (now s))) × (segments ≡ ahead (records (now s))) ⌝ }
+    requires { ⌜ (Index (now keys) (now links) n) × (Keyed (now keys) n (names (atomsOf (now s)))) × (own ≡ ownFaults 1 (records (now s))) × (segments ≡ ahead (records (now s))) ⌝ }
     ensures { λ r. ⌜ r ≡ faultIn (now (s .entry)) ⌝ }
 {
     let mut at = 0;
@@ -79,7 +59,7 @@ pub fn find_fault(
         let Next::Got(r, a, v) = next else {
             return own;
         };
-        let f = fault_of(s, keys, links, n, more, line, r);
+        let f = fault_of(keys, links, n, line, r);
         if pdb_reading::is_clean(f) {
             left -= pdb_survey::count_segment(Fault::Clean, r);
             line += 1;

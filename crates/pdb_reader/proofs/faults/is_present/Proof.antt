@@ -1,24 +1,18 @@
-use Rattle.pdb_reader.proofs.AtFault.{found-there, found-not}
+use Rattle.pdb_reader.proofs.AtFault.{found-is}
 use borrow.Author.Needs.{needs}
 use Rattle.pdb_reader.proofs.faults.is_present.Statement.{statement}
 use Rattle.pdb_reader.proofs.faults.is_present.Tie as tie
+use Rattle.pdb_reader.proofs.faults.is_present.Reads as reads
 use Rattle.pdb_reader.proofs.faults.is_present.Lts as lts
+use Rattle.appearance.proofs.find.Reads as find-reads
 
+-- src/faults.rt:18:9
 find-requires : tie.Need-find-requires
-find-requires c κs = c .before .pre .index
+find-requires c κs = search needs
 
+-- src/faults.rt:14:1
 returns : tie.Need-returns
-returns c = found-there _ _ _ _ _ (c .before .before .before .pre) _ _ (c .before .find .ensures .0) (c .if1 .taken) (c .before .find .ensures .1)
-
-is-present-requires : tie.Need-is-present-requires
-is-present-requires c κs = search needs
-
-returns-2 : tie.Need-returns-2
-returns-2 c = search needs
-
-returns-3 : tie.Need-returns-3
-returns-3 c = found-not _ _ _ _ _ (c .before .before .before .before .pre) _ _ (c .before .before .find .ensures .0) (c .before .if1 .left) (c .if2 .left)
+returns c = λ l K. found-is _ _ l K _ _ (c .find .ensures .0)
 
 pub is-present-spec : {M : Type 1} → statement M
-is-present-spec =
-    tie.close (tie.spec find-requires returns is-present-requires returns-2 returns-3)
+is-present-spec = tie.close (tie.spec find-requires returns)

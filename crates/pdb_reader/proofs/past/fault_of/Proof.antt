@@ -1,0 +1,82 @@
+use mathlib.Core.Path.{sym, _∙_}
+use borrow.Author.Needs.{needs}
+use Rattle.pdb_reader.proofs.past.fault_of.Statement.{statement}
+use Rattle.pdb_reader.proofs.past.fault_of.Tie as tie
+use Rattle.pdb_reader.proofs.past.fault_of.Reads as reads
+use Rattle.pdb_reader.proofs.past.fault_of.Lts as lts
+use Rattle.pdb_reader.proofs.past.is_present.Reads as is-present-reads
+
+-- src/past.rt:217:28
+enum-told : tie.Need-enum-told
+enum-told c = search needs
+
+-- src/past.rt:218:26
+enum-told-2 : tie.Need-enum-told-2
+enum-told-2 c = search needs
+
+-- src/past.rt:219:30
+enum-told-3 : tie.Need-enum-told-3
+enum-told-3 c = search needs
+
+-- src/past.rt:220:30
+enum-told-4 : tie.Need-enum-told-4
+enum-told-4 c = search needs
+
+-- src/past.rt:221:26
+enum-known-r : tie.Need-enum-known-r
+enum-known-r c = search needs
+
+-- src/past.rt:222:16
+is-present-requires : tie.Need-is-present-requires
+is-present-requires c κs = search needs
+
+-- src/past.rt:223:20
+is-present-requires-2 : tie.Need-is-present-requires-2
+is-present-requires-2 c κs = search needs
+
+-- src/past.rt:224:21
+returns : tie.Need-returns
+returns c = simp (c .before .before .before .before .before .r .given .1, sym (c .before .before .before .is-present .ensures) ∙ c .before .before .if1 .taken, sym (c .before .is-present2 .ensures) ∙ c .if2 .taken)
+
+-- src/past.rt:204:1
+returns-2 : tie.Need-returns-2
+returns-2 c = simp (c .enum-told .given .1)
+
+-- src/past.rt:204:1
+returns-3 : tie.Need-returns-3
+returns-3 c = simp (c .enum-told2 .given .1)
+
+-- src/past.rt:204:1
+returns-4 : tie.Need-returns-4
+returns-4 c = simp (c .enum-told3 .given .1)
+
+-- src/past.rt:204:1
+returns-5 : tie.Need-returns-5
+returns-5 c = simp (c .enum-told4 .given .1)
+
+-- src/past.rt:204:1
+returns-6 : tie.Need-returns-6
+returns-6 c = simp (c .before .before .before .before .before .r .given .1, sym (c .before .before .before .is-present .ensures) ∙ c .before .before .if1 .taken, sym (c .before .is-present2 .ensures) ∙ c .if2 .left)
+
+-- src/past.rt:204:1
+returns-7 : tie.Need-returns-7
+returns-7 c = simp (c .before .before .before .r .given .1, sym (c .before .is-present .ensures) ∙ c .if1 .left)
+
+pub fault-of-spec : {M : Type 1} → statement M
+fault-of-spec =
+    tie.close
+    (tie.spec
+    enum-told
+    enum-told-2
+    enum-told-3
+    enum-told-4
+    enum-known-r
+    is-present-requires
+    is-present-requires-2
+    returns
+    returns-2
+    returns-3
+    returns-4
+    returns-5
+    returns-6
+    returns-7)
