@@ -15,7 +15,7 @@ use Rattle.job.specs.Search.{last}
 use Rattle.appearance.specs.Index.{slot, isKey, inSlot, Index}
 
 -- ---- the last number below n that a test takes
-last-le : (t : ℕ → Bool) (n : ℕ) → last t n ≤ n
+pub last-le : (t : ℕ → Bool) (n : ℕ) → last t n ≤ n
 unfolding last
 last-le t zero = omega arith
 last-le t (suc n) = go (t n) (last-le t n)

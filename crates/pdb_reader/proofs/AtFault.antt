@@ -1,16 +1,13 @@
 -- The first line at fault, found with the tables of a survey. Assumes nothing.
-use Prim.Native.Nat.{ℕ, suc, _+_, _-_, _<_, _≤_}
+use Prim.Native.Nat.{ℕ, _+_, _-_, _≤_}
 use mathlib.Core.Bool.{Bool, true, false, cond}
 use mathlib.Core.Path.{_≡_, refl, sym, ap, _∙_}
 use mathlib.Core.List.{List, [], _∷_}
 use native.Mathlib.Omega.{arith}
 use lib.ListN.{length}
-use lib.Dec.{ltb}
-use borrow.Author.Tests.{ltb-true, ltb-false}
 use Rattle.job.specs.Search.{last}
-use Rattle.appearance.specs.Order.{numbered}
 use Rattle.appearance.specs.Index.{isKey, Keyed}
-use Rattle.appearance.proofs.Numbers.{found-number, number-none, number-some}
+use Rattle.appearance.proofs.Numbers.{found-number, number-none}
 use Rattle.pdb_records.specs.declared.AtomLine.{AtomLine}
 use Rattle.pdb_records.specs.declared.Record.{Record}
 use Rattle.pdb_records.specs.declared.Record.the-variants.{Skipped, Short, BadNumber, AnAtom, ASegment}
@@ -19,18 +16,21 @@ use Rattle.pdb_reading.specs.Faults.{firstAtom, isFound, faultOf, faults, first
 use Rattle.pdb_reading.specs.declared.Fault.{Fault}
 use Rattle.pdb_reading.specs.declared.Fault.the-variants.{Clean, LineShort, LineWrong, NoResidue}
 use Rattle.pdb_survey.specs.Lines.{ownFault, ownFaults, ahead, counted}
+use Rattle.pdb_survey.specs.Tables.{Noted}
+use Rattle.pdb_survey.specs.declared.Counts.{Counts}
 use Rattle.pdb_survey.proofs.Atoms.{found-member}
 
--- ---- a residue by the tables: its key is found exactly when its name is there
-pub found-is : (keys : List ℕ) (n : ℕ) (l : List AtomLine) → Keyed keys n (names l) → (x p : ℕ) → p ≡ last (isKey keys x) n → ltb 0 p ≡ isFound (firstAtom x l)
-found-is keys n l K x p e = go (ltb 0 p) refl
-  where
-    z : p ≡ numbered (names l) x
-    z = e ∙ found-number keys (names l) n x K
+-- ---- a residue that is not in an index of all
+pub found-not : (keys : List ℕ) (n : ℕ) (l : List AtomLine) → Keyed keys n (names l) → (x p : ℕ) → p ≡ last (isKey keys x) n → p ≤ 0 → false ≡ isFound (firstAtom x l)
+found-not keys n l K x p e h = sym (found-member x l ∙ number-none (names l) x (sym (found-number keys (names l) n x K) ∙ sym e ∙ omega arith))
 
-    go : (b : Bool) → ltb 0 p ≡ b → b ≡ isFound (firstAtom x l)
-    go true q = sym (found-member x l ∙ number-some (names l) x (omega (arith, z, ltb-true 0 p q)))
-    go false q = sym (found-member x l ∙ number-none (names l) x (omega (arith, z, ltb-false 0 p q)))
+-- tables that did not change
+pub keyed-same : (keys keys′ : List ℕ) (n n′ : ℕ) (l : List ℕ) → Keyed keys n l → keys′ ≡ keys → n′ ≡ n → Keyed keys′ n′ l
+keyed-same keys keys′ n n′ l K e f = rw (e, f) K
+
+pub noted-same : (keys keys′ links links′ ends marks : List ℕ) (c : Counts) (l : List AtomLine) → Noted keys links ends marks c l → keys′ ≡ keys → links′ ≡ links
+    → Noted keys′ links′ ends marks c l
+noted-same keys keys′ links links′ ends marks c l N e f = rw (e, f) N
 
 -- ---- the first line at fault, line by line
 pub clean-is : (f : Fault) → isClean f ≡ true → f ≡ Clean

@@ -1,5 +1,5 @@
 -- An index of the residues that segments name. Assumes nothing.
-use Prim.Native.Nat.{ℕ, zero, suc, _+_, _-_, _<_, _≤_}
+use Prim.Native.Nat.{ℕ, zero, suc, _-_, _<_, _≤_}
 use mathlib.Core.Bool.{Bool, true, false, cond, _||_}
 use mathlib.Core.Path.{_≡_, refl, sym, ap, _∙_, subst}
 use mathlib.Core.List.{List, [], _∷_, _++_, append-assoc, append-nil}
@@ -11,7 +11,7 @@ use borrow.Author.Tests.{eqb-true, eqb-false, eq-eqb, ne-eqb}
 use Rattle.job.specs.Search.{last}
 use Rattle.appearance.specs.Order.{member}
 use Rattle.appearance.specs.Index.{Index, isKey}
-use Rattle.appearance.proofs.Found.{last-taken}
+use Rattle.appearance.proofs.Found.{last-le, last-taken}
 use Rattle.appearance.proofs.Laws.{member-append, or-true}
 use Rattle.pdb_records.specs.declared.AtomLine.{AtomLine}
 use Rattle.pdb_records.specs.declared.Record.{Record}
@@ -19,6 +19,7 @@ use Rattle.pdb_reading.specs.Reading.{rest, atoms, atomsIn, atomsOf, names}
 use Rattle.pdb_reading.specs.Faults.{firstAtom, isFound}
 use Rattle.pdb_reading.specs.Steps.{Onward}
 use Rattle.pdb_survey.proofs.Atoms.{found-member, names-more}
+use Rattle.pdb_survey.specs.Tables.{Known}
 use Rattle.pdb_reader.specs.Wanted.{Wanted}
 
 -- ---- nothing is wanted, nothing is known
@@ -45,13 +46,16 @@ unknown keys links n I = record {
   known = λ x i e. zeros 16384 i;
 }
 
--- no name is known of an index with none
-pub none-wanted : (keys links l : List ℕ) → Index keys links 0 → Wanted keys links (replicate 16384 0) 0 l
-unfolding last
-none-wanted keys links l I = record {
-  index = I;
-  size = length-replicate {A = ℕ} 16384 0;
-  known = λ x i e. absurd (omega arith);
+-- the keys of a survey are all known
+pub all-known : (keys links : List ℕ) (n : ℕ) (more : Bool) (l : List ℕ) → Known keys links n more l → Wanted keys links (replicate 16384 1) n l
+unfolding isKey
+all-known keys links n more l K = record {
+  index = K .index;
+  size = length-replicate {A = ℕ} 16384 1;
+  known = λ x i e.
+      let low : i < n = omega (arith, last-le (isKey keys x) n, e) in
+      let k : getD keys i 0 ≡ x = eqb-true (getD keys i 0) x (last-taken (isKey keys x) n i e) in
+      getD-replicate {A = ℕ} 16384 i 1 0 (omega (arith, K .index .few)) ∙ sym (ap (λ (b : Bool). cond b 1 0) (ap (λ (y : ℕ). member y l) (sym k) ∙ K .among i low));
 }
 
 -- ---- one name more

@@ -126,11 +126,10 @@ pub fn read_pdb(s: &[u8], out: &mut [u8]) -> Read
     let c = v.counts;
     let own = v.fault;
     let segments = v.ahead;
+    let f = faults::find_fault(s, &mut keys, &mut links, c.residues, c.more, own, segments);
     if c.more {
-        let f = past::find_fault(s, &mut keys, &mut links, own, segments);
         return by_fault(f, Read::NoJob(Refusal::PastLimits));
     }
-    let f = faults::find_fault(s, &keys, &links, c.residues, own, segments);
     if pdb_reading::is_clean(f) {
         return read_right(s, &keys, &links, &ends, &marks, c, segments, out);
     }

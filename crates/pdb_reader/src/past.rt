@@ -1,17 +1,14 @@
-// The first line at fault of a file with more residues than the tables of a survey hold. The residues that segments name are looked for,
-// many of them in one walk over the file.
-use pdb_reading::Fault;
+// A file with more residues than the tables of a survey hold: the residues that its segments name are looked for, many of them in one walk.
 use pdb_reading::Next;
 use pdb_records::Record;
 ghost use mathlib.Core.Path.{_≡_};
+ghost use mathlib.Core.Bool.{true, false};
 ghost use mathlib.Core.List.{List, [], _∷_, _++_};
 ghost use Prim.Native.Nat.{ℕ, _+_, _<_, _≤_};
 ghost use lib.ListN.{length, getD};
 ghost use Rattle.appearance.specs.Index.{Index};
 ghost use Rattle.pdb_records.specs.declared.AtomLine.{AtomLine};
-ghost use Rattle.pdb_reading.specs.Reading.{records, atomsIn, atomsOf, names};
-ghost use Rattle.pdb_reading.specs.Faults.{firstAtom, isFound, faultOf, faultIn};
-ghost use Rattle.pdb_survey.specs.Lines.{ownFaults, ahead};
+ghost use Rattle.pdb_reading.specs.Reading.{atomsIn, atomsOf, names};
 ghost use Rattle.pdb_reader.specs.Wanted.{Wanted};
 
 // An empty index.
@@ -141,7 +138,7 @@ fn note_atoms(
 }
 
 // Both ends of this line's segment, if it gives one, are in the index.
-fn are_wanted(keys: &[u64; 16384], links: &[usize; 32768], n: usize, r: Record) -> bool
+fn are_in(keys: &[u64; 16384], links: &[usize; 32768], n: usize, r: Record) -> bool
     requires { ⌜ Index (now keys) (now links) n ⌝ }
 {
     match r {
@@ -158,8 +155,19 @@ fn are_wanted(keys: &[u64; 16384], links: &[usize; 32768], n: usize, r: Record) 
     }
 }
 
-// An index with the names of the line at `at`: the one at hand, or one of the names from this line on.
-fn refresh(
+// The index serves for this line. One that holds all residues of the file, where there are no more, serves for each.
+fn serves(keys: &[u64; 16384], links: &[usize; 32768], n: usize, more: bool, r: Record) -> bool
+    requires { ⌜ Index (now keys) (now links) n ⌝ }
+    ensures { λ b. ⌜ (more ≡ false → b ≡ true) ⌝ }
+{
+    if more {
+        return are_in(keys, links, n, r);
+    }
+    true
+}
+
+// An index that serves for the line at `at`: the one at hand, or one of the names from this line on.
+pub fn refresh(
     s: &[u8],
     at: usize,
     seen: bool,
@@ -167,12 +175,13 @@ fn refresh(
     links: &mut [usize; 32768],
     bits: &mut [u8; 16384],
     n: usize,
+    more: bool,
     r: Record,
 ) -> usize
     requires { ⌜ (at ≤ length (now s)) × (Wanted (now keys) (now links) (now bits) n (names (atomsOf (now s)))) ⌝ }
-    ensures { λ m. ⌜ Wanted (now (keys .exit)) (now (links .exit)) (now (bits .exit)) m (names (atomsOf (now (s .entry)))) ⌝ }
+    ensures { λ m. ⌜ (Wanted (now (keys .exit)) (now (links .exit)) (now (bits .exit)) m (names (atomsOf (now (s .entry))))) × (more ≡ false → (now (keys .exit) ≡ now (keys .entry)) × (now (links .exit) ≡ now (links .entry)) × (m ≡ n)) ⌝ }
 {
-    if are_wanted(keys, links, n, r) {
+    if serves(keys, links, n, more, r) {
         return n;
     }
     forget(links);
@@ -180,88 +189,4 @@ fn refresh(
     *bits = [0u8; 16384];
     note_atoms(s, keys, links, m, bits);
     m
-}
-
-// Whether the file has an atom of this residue. One that is not in the index is looked for in the file.
-fn is_present(
-    s: &[u8],
-    keys: &[u64; 16384],
-    links: &[usize; 32768],
-    bits: &[u8; 16384],
-    n: usize,
-    name: u64,
-) -> bool
-    requires { ⌜ Wanted (now keys) (now links) (now bits) n (names (atomsOf (now s))) ⌝ }
-    ensures { λ r. ⌜ r ≡ isFound (firstAtom name (atomsOf (now (s .entry)))) ⌝ }
-{
-    let p = appearance::find(keys, links, n, name);
-    if 0 < p {
-        return bits[p - 1] == 1;
-    }
-    pdb_reading::is_present(s, name)
-}
-
-fn fault_of(
-    s: &[u8],
-    keys: &[u64; 16384],
-    links: &[usize; 32768],
-    bits: &[u8; 16384],
-    n: usize,
-    line: usize,
-    r: Record,
-) -> Fault
-    requires { ⌜ Wanted (now keys) (now links) (now bits) n (names (atomsOf (now s))) ⌝ }
-    ensures { λ f. ⌜ f ≡ faultOf (atomsOf (now (s .entry))) line r ⌝ }
-{
-    match r {
-        Record::Skipped => Fault::Clean,
-        Record::Short => Fault::LineShort(line),
-        Record::BadNumber => Fault::LineWrong(line),
-        Record::AnAtom(_) => Fault::Clean,
-        Record::ASegment(g) => {
-            if is_present(s, keys, links, bits, n, g.start) {
-                if is_present(s, keys, links, bits, n, g.end) {
-                    return Fault::Clean;
-                }
-            }
-            Fault::NoResidue(line)
-        }
-    }
-}
-
-// The first line at fault. The survey's tables are of no more use and serve as the index.
-pub fn find_fault(
-    s: &[u8],
-    keys: &mut [u64; 16384],
-    links: &mut [usize; 32768],
-    own: Fault,
-    segments: usize,
-) -> Fault
-    requires { ⌜ (length (now keys) ≡ 16384) × (own ≡ ownFaults 1 (records (now s))) × (segments ≡ ahead (records (now s))) ⌝ }
-    ensures { λ r. ⌜ r ≡ faultIn (now (s .entry)) ⌝ }
-{
-    let mut bits = [0u8; 16384];
-    let mut n = 0;
-    let mut at = 0;
-    let mut seen = false;
-    let mut line = 1;
-    let mut left = segments;
-    forget(links);
-    while 0 < left {
-        let next = pdb_reading::step(s, at, seen);
-        let Next::Got(r, a, v) = next else {
-            return own;
-        };
-        n = refresh(s, at, seen, keys, links, &mut bits, n, r);
-        let f = fault_of(s, keys, links, &bits, n, line, r);
-        if pdb_reading::is_clean(f) {
-            left -= pdb_survey::count_segment(Fault::Clean, r);
-            line += 1;
-            at = a;
-            seen = v;
-        } else {
-            return f;
-        }
-    }
-    own
 }

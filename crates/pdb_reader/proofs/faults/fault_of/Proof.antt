@@ -2,65 +2,49 @@ use mathlib.Core.Path.{sym, _∙_}
 use borrow.Author.Needs.{needs}
 use Rattle.pdb_reader.proofs.faults.fault_of.Statement.{statement}
 use Rattle.pdb_reader.proofs.faults.fault_of.Tie as tie
-use Rattle.pdb_reader.proofs.faults.fault_of.Reads as reads
 use Rattle.pdb_reader.proofs.faults.fault_of.Lts as lts
-use Rattle.pdb_reader.proofs.faults.is_present.Reads as is-present-reads
 
--- src/faults.rt:32:28
 enum-told : tie.Need-enum-told
 enum-told c = search needs
 
--- src/faults.rt:33:26
 enum-told-2 : tie.Need-enum-told-2
 enum-told-2 c = search needs
 
--- src/faults.rt:34:30
 enum-told-3 : tie.Need-enum-told-3
 enum-told-3 c = search needs
 
--- src/faults.rt:35:30
 enum-told-4 : tie.Need-enum-told-4
 enum-told-4 c = search needs
 
--- src/faults.rt:36:26
 enum-known-r : tie.Need-enum-known-r
 enum-known-r c = search needs
 
--- src/faults.rt:37:16
 is-present-requires : tie.Need-is-present-requires
 is-present-requires c κs = search needs
 
--- src/faults.rt:38:20
 is-present-requires-2 : tie.Need-is-present-requires-2
 is-present-requires-2 c κs = search needs
 
--- src/faults.rt:39:21
 returns : tie.Need-returns
-returns c = λ l K. simp (c .before .before .before .before .before .r .given .1, sym (c .before .before .before .is-present .ensures l K) ∙ c .before .before .if1 .taken, sym (c .before .is-present2 .ensures l K) ∙ c .if2 .taken)
+returns c = simp (c .before .before .before .before .before .r .given .1, sym (c .before .before .before .is-present .ensures) ∙ c .before .before .if1 .taken, sym (c .before .is-present2 .ensures) ∙ c .if2 .taken)
 
--- src/faults.rt:21:1
 returns-2 : tie.Need-returns-2
-returns-2 c = λ l K. simp (c .enum-told .given .1)
+returns-2 c = simp (c .enum-told .given .1)
 
--- src/faults.rt:21:1
 returns-3 : tie.Need-returns-3
-returns-3 c = λ l K. simp (c .enum-told2 .given .1)
+returns-3 c = simp (c .enum-told2 .given .1)
 
--- src/faults.rt:21:1
 returns-4 : tie.Need-returns-4
-returns-4 c = λ l K. simp (c .enum-told3 .given .1)
+returns-4 c = simp (c .enum-told3 .given .1)
 
--- src/faults.rt:21:1
 returns-5 : tie.Need-returns-5
-returns-5 c = λ l K. simp (c .enum-told4 .given .1)
+returns-5 c = simp (c .enum-told4 .given .1)
 
--- src/faults.rt:21:1
 returns-6 : tie.Need-returns-6
-returns-6 c = λ l K. simp (c .before .before .before .before .before .r .given .1, sym (c .before .before .before .is-present .ensures l K) ∙ c .before .before .if1 .taken, sym (c .before .is-present2 .ensures l K) ∙ c .if2 .left)
+returns-6 c = simp (c .before .before .before .before .before .r .given .1, sym (c .before .before .before .is-present .ensures) ∙ c .before .before .if1 .taken, sym (c .before .is-present2 .ensures) ∙ c .if2 .left)
 
--- src/faults.rt:21:1
 returns-7 : tie.Need-returns-7
-returns-7 c = λ l K. simp (c .before .before .before .r .given .1, sym (c .before .is-present .ensures l K) ∙ c .if1 .left)
+returns-7 c = simp (c .before .before .before .r .given .1, sym (c .before .is-present .ensures) ∙ c .if1 .left)
 
 pub fault-of-spec : {M : Type 1} → statement M
 fault-of-spec =

@@ -4,15 +4,10 @@ use Rattle.pdb_reader.proofs.Wanted.{noted-none, noted-atom}
 use borrow.Author.Needs.{needs}
 use Rattle.pdb_reader.proofs.past.note_atom.Statement.{statement}
 use Rattle.pdb_reader.proofs.past.note_atom.Tie as tie
-use Rattle.pdb_reader.proofs.past.note_atom.Reads as reads
-use Rattle.pdb_reader.proofs.past.note_atom.Lts as lts
-use Rattle.pdb_reader.proofs.past.note_name.Reads as note-name-reads
 
--- src/past.rt:85:24
 enum-known-r : tie.Need-enum-known-r
 enum-known-r c = search needs
 
--- src/past.rt:85:30
 note-name-requires : tie.Need-note-name-requires
 note-name-requires c κs = search needs
 
@@ -28,23 +23,18 @@ enum-told-3 c = search needs
 enum-told-4 : tie.Need-enum-told-4
 enum-told-4 c = search needs
 
--- src/past.rt:74:1
 returns : tie.Need-returns
 returns c = λ l W. noted-atom _ _ _ _ l _ _ (ap atomsIn (c .before .before .before .r .given .1)) (c .note-name .ensures (names l) W)
 
--- src/past.rt:74:1
 returns-2 : tie.Need-returns-2
 returns-2 c = λ l W. noted-none _ _ _ _ l _ (ap atomsIn (c .enum-told .given .1)) W
 
--- src/past.rt:74:1
 returns-3 : tie.Need-returns-3
 returns-3 c = λ l W. noted-none _ _ _ _ l _ (ap atomsIn (c .enum-told2 .given .1)) W
 
--- src/past.rt:74:1
 returns-4 : tie.Need-returns-4
 returns-4 c = λ l W. noted-none _ _ _ _ l _ (ap atomsIn (c .enum-told3 .given .1)) W
 
--- src/past.rt:74:1
 returns-5 : tie.Need-returns-5
 returns-5 c = λ l W. noted-none _ _ _ _ l _ (ap atomsIn (c .enum-told4 .given .1)) W
 
