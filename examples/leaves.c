@@ -1,5 +1,7 @@
 /* Runs the proved square root and narrowing against the machine's own: leaves STEP COUNT
-   compares the roots of the f32 patterns 0, STEP, 2 STEP, .. and the narrowings of COUNT f64 patterns, random ones and ones near each f32. A NaN must be 7FC00000. */
+   compares the roots of the f32 patterns 0, STEP, 2 STEP, .. and the narrowings of COUNT f64 patterns, random ones and ones near each f32. A NaN must be
+   7FC00000. */
+#include <errno.h>
 #include <math.h>
 #include <stdint.h>
 #include <stdio.h>
@@ -24,12 +26,18 @@ static uint64_t next(void) { /* splitmix64 */
     return z ^ (z >> 31);
 }
 
+/* up to eighteen digits, and nothing else */
+static int is_number(const char *s, uint64_t *n) {
+    *n = strtoull(s, 0, 10);
+    return *s && strspn(s, "0123456789") == strlen(s) && strlen(s) <= 18;
+}
+
 int main(int argc, char **argv) {
-    if (argc != 3 || strtoull(argv[1], 0, 10) == 0) {
-        fprintf(stderr, "usage: leaves STEP COUNT\n");
+    uint64_t step, count, roots = 0;
+    if (argc != 3 || !is_number(argv[1], &step) || !is_number(argv[2], &count) || !step) {
+        fprintf(stderr, "usage: leaves STEP COUNT   (whole numbers; STEP is 1 or more)\n");
         return 2;
     }
-    uint64_t step = strtoull(argv[1], 0, 10), count = strtoull(argv[2], 0, 10), roots = 0;
     for (uint64_t b = 0; b < 0x100000000u; b += step, roots++) {
         uint32_t p = (uint32_t)b;
         float x;
@@ -57,5 +65,7 @@ int main(int argc, char **argv) {
         }
     }
     printf("%llu roots and %llu narrowings as the machine has them\n", (unsigned long long)roots, (unsigned long long)count);
-    return 0;
+    if (!fflush(stdout) && !ferror(stdout)) return 0;
+    fprintf(stderr, "leaves: standard output cannot be written: %s\n", strerror(errno));
+    return 1;
 }

@@ -1,9 +1,54 @@
-/* The proved ribbon builder for C: link target/staticlib/libribbon_c.a (rt staticlib ribbon_c), x86-64 Linux.
+/* The proved ribbon builder for C and C++: from a PDB file to a job, from a job to a mesh, in buffers that the caller lends. A host needs no other file.
  *
- * A buffer is a pointer and its length in places. The buffers of one call must not overlap, and an empty one may be null.
- * Nothing else is demanded: every job and every length has an answer, and a refused call changes no output buffer.
- * What each call answers, and what it leaves in every buffer, is set out in crates/ribbon/specs/Calls.antt
- * and, for the reader, crates/pdb_reader/specs/Call.antt, and proved. */
+ * Link target/staticlib/libribbon_c.a, which `rt staticlib ribbon_c` writes. It is for x86-64 Linux alone, and of the C library it takes memcpy and memset.
+ *
+ * WHAT IS DEMANDED. A buffer is a pointer and its length in places (bytes, words or floats). The pointer is good for that length, and no two buffers of one
+ * call overlap, the answer among them; an empty buffer may be null. Nothing else is demanded: every file, every job and every length has an answer. A refused
+ * call changes no output buffer, and places past what a call writes stay as they were. What each call answers, and what it leaves in every buffer, is set out
+ * in crates/ribbon/specs/Calls.antt and, for the reader, crates/pdb_reader/specs/Call.antt, and proved.
+ *
+ * THE ORDER OF A HOST'S CALLS (examples/host.c is such a host):
+ *   1. ribbon_read_pdb with no room, null and 0: of a right file RIBBON_NO_JOB_ROOM carries the job's size; any other refusal says what is wrong with the file.
+ *   2. ribbon_read_pdb with room for that many bytes: the job.
+ *   3. ribbon_plan with scratch for RIBBON_RESIDUES(job): the mesh will have K tubes, V vertices and T triangles.
+ *   4. ribbon_build with room for K, V and T: the mesh. A host whose buffers have a fixed size can leave out step 3: RIBBON_NO_ROOM carries K, V and T.
+ *   5. ribbon_tube for the triangles of one tube.
+ *
+ * A JOB has 13 + C + 9 S + 33 A bytes, its numbers big-endian. A host that has no PDB file, or that hides a chain, writes it itself:
+ *   byte  0  u32  how many bytes follow these four
+ *   byte  4  u8   the version, 1
+ *   byte  5  u16  C, the chains, at most RIBBON_MAX_CHAINS
+ *   byte  7  u16  R, the residues, at most RIBBON_MAX_RESIDUES
+ *   byte  9  u16  S, the segments: helices and strands
+ *   byte 11  u16  A, the atoms
+ *   byte 13  C bytes, one for each chain: 1 visible, 0 hidden
+ *   then S segments of 9 bytes: u8 kind (enum ribbon_kind), u32 start serial, u32 end serial; a start above the end is a segment with no atoms
+ *   then A atoms of 33 bytes: u32 serial, u8 role (0 other, 1 C-alpha, 2 backbone oxygen), u16 residue, u16 chain, and x, y, z, each the 64 bits of a double
+ * Chains, residues, segments, atoms and tubes are numbered from 0; for an atom's residue or chain 65535 means none. In a job of ribbon_read_pdb residues and
+ * chains are numbered by their first appearance in ATOM lines, and every chain is visible.
+ *
+ * A MESH is K tubes, one after the other in every buffer. A tube of n residues has 64 n - 54 vertices and 128 n - 112 triangles, and is closed.
+ *   positions  3 V floats, x, y, z of each vertex, in the unit of the job's coordinates: a PDB file's is the angstrom.
+ *   normals    3 V floats, which point out of the tube. Each is a vector times 1 / its length, so of length 1 but for rounding. Where that length is 0 there
+ *              is no direction and the normal is 0, 0, 0, as at the end cap of a coil whose last two C-alphas are at one place.
+ *   tags       V words: the number of the residue that the vertex belongs to.
+ *   triangles  3 T words, the corners, each the number of a vertex, counted over the whole mesh and not from its tube's first one. The triangles wind INWARD:
+ *              seen from outside their corners run clockwise. A program that shades or prints by winding wants two corners of each triangle swapped.
+ *   tubes      5 K words, for each tube: kind (enum ribbon_kind), first residue, residues n, first vertex, first triangle.
+ *   boxes      6 K floats, for each tube: the least x, y, z of its C-alphas, then the greatest. Vertices stand out of it.
+ * The scratch is RIBBON_SCRATCH_WORDS(R) words and RIBBON_SCRATCH_FLOATS(R) floats, whatever they hold. Refusals 1 to 9 leave it as it was; after any other
+ * answer these places are 0.
+ *
+ * AN ANSWER is words: 0 and what was asked for, or a refusal's number (enum ribbon_refusal) and what it carries, with 0 where there is nothing. K, V, T and a
+ * job's size always fit. Of a line's number the low 32 bits are given, so past 4,294,967,295 lines it wraps.
+ *
+ * THREADS. The library has no variables and allocates nothing: any number of threads may call it at once, each on buffers of its own.
+ *
+ * THE STACK is bounded by no theorem. ribbon_read_pdb keeps tables there and wants 700 KiB: it was seen to use 674,488 bytes. ribbon_plan and ribbon_build
+ * want 32 KiB: they were seen to use less than 8. A thread with too little crashes. glibc gives a thread 8 MiB, musl 128 KiB: where a thread is to read files,
+ * give it more, by pthread_attr_setstacksize(&attributes, 1 << 20).
+ *
+ * A NaN in a place that no call writes: the proofs know one NaN, so they do not speak of its bits. The code does not touch the place. */
 #ifndef RIBBON_H
 #define RIBBON_H
 
@@ -13,6 +58,58 @@
 #ifdef __cplusplus
 extern "C" {
 #endif
+
+#define RIBBON_MAX_CHAINS 255
+#define RIBBON_MAX_RESIDUES 16384
+#define RIBBON_MAX_VERTICES 1048576
+#define RIBBON_MAX_JOB 2752738 /* bytes, that of 255 chains, 65,535 segments and 65,535 atoms */
+
+/* R, where the job has 13 bytes or more. A job with R above RIBBON_MAX_RESIDUES is refused whatever scratch is lent. */
+#define RIBBON_RESIDUES(job) ((size_t)((const uint8_t *)(job))[7] * 256 + ((const uint8_t *)(job))[8])
+
+/* The scratch for r residues. */
+#define RIBBON_SCRATCH_WORDS(r) (8 * (size_t)(r))
+#define RIBBON_SCRATCH_FLOATS(r) (32 * (size_t)(r))
+
+enum ribbon_kind { RIBBON_COIL = 0, RIBBON_HELIX = 1, RIBBON_SHEET = 2 };
+
+/* The refusals in the order of checking: of several faults the first here is given. ribbon_build gives 1 to 11, ribbon_plan 1 to 10, and ribbon_read_pdb 12 to
+ * 16, where the first line at fault decides among 12 to 14. No job that ribbon_read_pdb wrote is refused by 1 to 8. */
+enum ribbon_refusal {
+    /* The job has under 13 bytes, or its length field differs from the bytes after it. Carries 0. Hand over the whole job, and no byte more. */
+    RIBBON_BAD_LENGTH = 1,
+    /* The version is not 1. Carries the version. Write 1, and the layout above. */
+    RIBBON_BAD_VERSION = 2,
+    /* There are more than 255 chains or 16,384 residues. Carries 0. Make several jobs of it. */
+    RIBBON_BAD_COUNTS = 3,
+    /* The job's size is not 13 + C + 9 S + 33 A. Carries 0. Let the four counts be those of what follows. */
+    RIBBON_BAD_SIZE = 4,
+    /* A chain's byte is above 1. Carries the first such chain. Write 1 or 0. */
+    RIBBON_BAD_VISIBILITY = 5,
+    /* A segment's kind is above 2. Carries the first such segment. Write one of enum ribbon_kind. */
+    RIBBON_BAD_KIND = 6,
+    /* A role is above 2, or a residue is R or more, or a chain C or more, and not 65535. Carries the first such atom. Let R and C count them all. */
+    RIBBON_BAD_ATOM = 7,
+    /* A coordinate is not within -16384 to 16384, a NaN among them. Carries the first such atom. Move the model to the origin. */
+    RIBBON_BAD_COORDINATE = 8,
+    /* There are fewer than 8 R scratch words or 32 R scratch floats. Carries 0. Lend RIBBON_SCRATCH_WORDS(R) and RIBBON_SCRATCH_FLOATS(R). */
+    RIBBON_NO_SCRATCH = 9,
+    /* The mesh would have more than 1,048,576 vertices. Carries 0. Hide chains, or make several jobs of it. */
+    RIBBON_TOO_MANY_VERTICES = 10,
+    /* An output buffer is too short. Carries K, V and T. Lend room for these. */
+    RIBBON_NO_ROOM = 11,
+    /* A line ends before its last column read, 54 of ATOM, 38 of HELIX and SHEET. Carries the line, counted from 1. Pad lines with blanks to 80 columns. */
+    RIBBON_SHORT_LINE = 12,
+    /* A serial, a residue number or a coordinate is not right. Carries the line. Write whole numbers in digits, a serial without a minus, and coordinates with
+     * a point and three decimals. */
+    RIBBON_BAD_NUMBER = 13,
+    /* A HELIX or SHEET line names a residue that no right ATOM line has. Carries the line. Let it begin and end at residues that have one. */
+    RIBBON_ABSENT_RESIDUE = 14,
+    /* The file has more than 255 chains, 16,384 residues, 65,535 segments or 65,535 atoms. Carries 0. Make several files of it. */
+    RIBBON_PAST_LIMITS = 15,
+    /* The job buffer is too short. Carries the size needed. Lend so many bytes. */
+    RIBBON_NO_JOB_ROOM = 16
+};
 
 /* Builds the mesh of a job. For V vertices, T triangles and K tubes it needs 3V positions, 3V normals, V tags, 3T triangle corners,
  * 5K tube words (kind, first residue, residues, first vertex, first triangle) and 6K box floats; for R residues 8R scratch words and
@@ -32,7 +129,7 @@ size_t ribbon_tube(const uint32_t *tubes, size_t tubes_len, const uint32_t *tria
 
 /* Reads a PDB file's ATOM, HELIX and SHEET lines, up to the first ENDMDL or a second MODEL, and writes the job to the front of job_out; a
  * refused file changes no place of it, and places past the job stay. answer: 0, the job's size, 0, 0; or a refusal's number, 12 to 16, what
- * it carries (the line, counted from 1, for 12 to 14, 0 for 15, the size needed for 16), 0, 0. 2,752,738 bytes hold every job. */
+ * it carries (the line, counted from 1, for 12 to 14, 0 for 15, the size needed for 16), 0, 0. RIBBON_MAX_JOB bytes hold every job. */
 void ribbon_read_pdb(const uint8_t *file, size_t file_len, uint8_t *job_out, size_t job_out_len, uint32_t answer[4]);
 
 #ifdef __cplusplus
