@@ -1,18 +1,55 @@
 # Sourced by the wrappers at the root: builds a proved program once, and runs it on x86-64, or on Arm under the kit's emulator.
 # The kit's own loader and C library are used, as `rt` does, so that a program runs the same on every machine.
-command -v rt >/dev/null || { echo "the Rattle kit's command 'rt' is not on the PATH" >&2; exit 2; }
+command -v rt >/dev/null || { echo "${0##*/}: the Rattle kit's command 'rt' is not on the PATH" >&2; exit 2; }
 kit=${RATTLE_HOME:-$(dirname "$(dirname "$(readlink -f "$(command -v rt)")")")}
 tools=$kit/on/$(uname -m)/toolchain
 
-fresh() { # FILE: it is there, and no source is newer
-    [ -e "$1" ] && [ -z "$(find "$root/crates" -name '*.rt' -newer "$1" -print -quit)" ]
+# Said before a build and in ./test: another kit may prove the same, and whether it does is what the build tells.
+compare_kit() {
+    local here
+    here=$(rt version)
+    [ "$here" = "$(cat "$root/KIT")" ] || echo "note: the kit here is '$here', and this was last proved whole with '$(cat "$root/KIT")' (docs/CHANGING.md)" >&2
 }
 
+fresh() { # FILE: it is there, and no source is newer
+    [ -e "$1" ] && [ -z "$(find "$root/crates" "$root/crates.txt" \( -name '*.rt' -o -name crates.txt \) -newer "$1" -print -quit)" ]
+}
+
+# The crates that NAME stands on, by crates.txt, and itself.
+below() { # NAME
+    awk -F: -v name="$1" '
+        !/^#/ && NF > 1 { of[$1] = $2 }
+        function visit(c,   n, i, d) { if (c in seen || !(c in of)) return; seen[c] = 1; n = split(of[c], d, " "); for (i = 1; i <= n; i++) visit(d[i]); count++ }
+        END { visit(name); print count }' "$root/crates.txt"
+}
+
+# Runs `rt WORD..` with a line for each crate that is proved: which of how many, and how long. The prover's own lines go to a log.
+show_progress() { # HOW-MANY LOG WORD ...
+    local of=$1 log=$2 began=$SECONDS status
+    shift 2
+    set +e
+    (cd "$root" && rt "$@") 2>&1 | tee "$log" | awk -v of="$of" '
+        /^rt: .* (proved|unchanged)/ { if (!($2 in seen)) { seen[$2] = 1; n++ } line = $0; sub(/^rt: /, "", line); printf "[%2d/%s] %s\n", n, of, line; fflush(); next }
+        /NOT PROVED|FAILED|error/ { print substr($0, 1, 300); fflush() }' >&2
+    status=${PIPESTATUS[0]}
+    set -e
+    [ "$status" = 0 ] || { echo "${0##*/}: this could not be built: $log has what the prover said" >&2; exit 1; }
+    echo "built in $((SECONDS - began)) s" >&2
+}
+
+# Builds under a lock, so that two programs started at once build once.
 build() { # NAME
     fresh "$root/target/bin/$1" && return
-    echo "building $1, which proves what it stands on; this takes some minutes the first time" >&2
-    (cd "$root" && rt check "$1") >&2
-    touch "$root/target/bin/$1"
+    mkdir -p "$root/target/log"
+    exec 9>"$root/target/lock"
+    flock 9
+    if ! fresh "$root/target/bin/$1"; then
+        compare_kit
+        echo "${0##*/}: building $1, which proves the crates that it stands on: some ten minutes the first time, some seconds later" >&2
+        show_progress "$(below "$1")" "$root/target/log/build-$1.out" check "$1"
+        touch "$root/target/bin/$1"
+    fi
+    exec 9>&-
 }
 
 command_of() { # NAME: leaves the words that run it in the array `words`, one to a place, since a path may hold blanks
@@ -21,7 +58,37 @@ command_of() { # NAME: leaves the words that run it in the array `words`, one to
     words+=("$tools/lib/ld-linux-x86-64.so.2" --library-path "$tools/lib" "$root/target/bin/$1")
 }
 
+# A descriptor that is closed would be taken by the next file that is opened: standard input is then one that cannot be read, standard output one that cannot be
+# written, and the program says so.
+hold_descriptors() {
+    { : 5>&2; } || exec 2>/dev/null
+    { : 5<&0; } 2>/dev/null || exec 0>/dev/null
+    { : 5>&1; } 2>/dev/null || exec 1</dev/null
+}
+
+# Runs a program and ends with its status. A Rattle program has none of its own: its last act is to write it to descriptor 3, 0 where all went well and 1 where
+# not. Where nothing comes the program was stopped, and what it wrote is not whole.
 run() { # NAME [ARGUMENT ...]
+    local status ended=0
     command_of "$1"
-    exec "${words[@]}" "${@:2}"
+    { status=$("${words[@]}" "${@:2}" 3>&1 1>&4 4>&-) || ended=$?; } 4>&1
+    case $status in
+        0 | 1) exit "$status" ;;
+        *) echo "${0##*/}: the program was stopped before its end (status $ended): what it wrote is not whole" >&2; exit 1 ;;
+    esac
+}
+
+usage() { sed -n '2,/^set /s/^# \{0,1\}//p' "$0"; }
+
+# The words of a command that takes one file: leaves in `file` nothing for standard input, or the file's name. -- ends the options.
+one_file() { # [WORD ...]
+    file=()
+    case ${1-} in
+        -h | --help) usage; exit 0 ;;
+        --) shift ;;
+        -) [ $# = 1 ] || { usage >&2; exit 2; }; return ;;
+        -?*) echo "${0##*/}: there is no option '$1'" >&2; usage >&2; exit 2 ;;
+    esac
+    [ $# -le 1 ] || { usage >&2; exit 2; }
+    [ $# = 0 ] || file=("$1")
 }

@@ -33,3 +33,8 @@ pub record Index (keys links : List ℕ) (n : ℕ) : Type 0 where
 pub record Keyed (keys : List ℕ) (n : ℕ) (l : List ℕ) : Type 0 where
   pub count : n ≡ length (order l)
   pub key : (i : ℕ) → i < n → getD keys i 0 ≡ getD (order l) i 0
+
+-- the first n keys are indexed, and are those of l, each once; where all 16,384 places are taken, l may have more
+pub record Holding (keys links : List ℕ) (n : ℕ) (l : List ℕ) : Type 0 where
+  pub index : Index keys links n
+  pub keyed : n < 16384 → Keyed keys n l

@@ -28,7 +28,7 @@ use Rattle.pdb_survey.specs.declared.Counts.{Counts}
 use Rattle.pdb_survey.specs.declared.Overview.{Overview}
 use Rattle.pdb_reader.specs.Counted.{Counted}
 use Rattle.pdb_reader.proofs.AtFault.{clean-is}
-use Rattle.pdb_reader.proofs.Wanted.{empty-index}
+use Rattle.appearance.proofs.Holding.{empty-index}
 use Rattle.pdb_reader.specs.Structure.{Structure, chainsOf, residuesOf, sizeOf, toSegment, toAtom, jobOf, structureOf}
 use Rattle.pdb_reader.specs.Call.{pastLimits, byFault, readChecks, readAnswer, readBy, bufferAfter}
 use Rattle.pdb_reader.specs.declared.Read.{Read}

@@ -23,16 +23,6 @@ use Rattle.pdb_survey.specs.Tables.{Known}
 use Rattle.pdb_reader.specs.Wanted.{Wanted}
 
 -- ---- nothing is wanted, nothing is known
-pub empty-index : (keys : List ℕ) → length keys ≡ 16384 → Index keys (replicate 32768 0) 0
-unfolding last
-empty-index keys e = record {
-  keys-size = e;
-  links-size = length-replicate {A = ℕ} 32768 0;
-  few = omega arith;
-  head = λ h l. getD-replicate {A = ℕ} 32768 h 0 0 (omega arith);
-  link = λ i l. absurd (omega arith);
-}
-
 zeros : (m i : ℕ) → getD (replicate {A = ℕ} m 0) i 0 ≡ 0
 zeros zero i = refl
 zeros (suc m) zero = refl

@@ -18,21 +18,6 @@ fn forget(links: &mut [usize; 32768])
     *links = [0usize; 32768];
 }
 
-// The number of names with this one, while there is room.
-fn want(keys: &mut [u64; 16384], links: &mut [usize; 32768], n: usize, name: u64) -> usize
-    requires { ⌜ Index (now keys) (now links) n ⌝ }
-    ensures { λ r. ⌜ Index (now (keys .exit)) (now (links .exit)) r ⌝ }
-{
-    if n == 16384 {
-        return n;
-    }
-    if 0 < appearance::find(keys, links, n, name) {
-        return n;
-    }
-    appearance::enter(keys, links, n, name);
-    n + 1
-}
-
 // The number of names with those of this line's segment, if it gives one.
 fn want_ends(keys: &mut [u64; 16384], links: &mut [usize; 32768], n: usize, r: Record) -> usize
     requires { ⌜ Index (now keys) (now links) n ⌝ }
@@ -40,8 +25,8 @@ fn want_ends(keys: &mut [u64; 16384], links: &mut [usize; 32768], n: usize, r: R
 {
     match r {
         Record::ASegment(g) => {
-            let m = want(keys, links, n, g.start);
-            want(keys, links, m, g.end)
+            let m = appearance::add(keys, links, n, g.start);
+            appearance::add(keys, links, m, g.end)
         }
         Record::AnAtom(_) => n,
         Record::Skipped => n,

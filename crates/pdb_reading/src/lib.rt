@@ -26,7 +26,8 @@ pub enum Fault {
     NoResidue(usize),
 }
 
-fn stops_at(seen: bool, k: Kind) -> bool
+// Whether reading ends before a line of this kind; `seen`: a MODEL line was read.
+pub fn stops_at(seen: bool, k: Kind) -> bool
     ensures { λ r. ⌜ r ≡ stops seen k ⌝ }
 {
     match k {
@@ -39,7 +40,7 @@ fn stops_at(seen: bool, k: Kind) -> bool
     }
 }
 
-fn saw_model(seen: bool, k: Kind) -> bool
+pub fn saw_model(seen: bool, k: Kind) -> bool
     ensures { λ r. ⌜ r ≡ saw seen k ⌝ }
 {
     match k {

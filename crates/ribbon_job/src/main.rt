@@ -1,8 +1,7 @@
-// The program `ribbon-job`: reads a PDB file, the one that is named or standard input, and writes its job to standard output. Where there is no job it
-// says why on standard error.
-use job::Refusal;
+// The program `ribbon-job`: reads a PDB file, the one that is named or standard input, and writes its job to standard output. What was read, or why there is no
+// job, it says on standard error.
+use files::say;
 use libc::STDERR_FILENO;
-use libc::STDIN_FILENO;
 use libc::STDOUT_FILENO;
 use pdb_reader::Read;
 
@@ -16,90 +15,56 @@ fn room_for_job() -> [u8; 2100000] {
     [0u8; 2100000]
 }
 
-// What a number means, for a reader who has no list of them at hand.
-fn explain(r: Refusal) {
-    match r {
-        Refusal::ShortLine(_) => {
-            io::write_all(
-                STDERR_FILENO,
-                b"the line of that number ends before its last column: 54 for ATOM, 38 for HELIX and SHEET\n",
-            );
-        }
-        Refusal::BadNumber(_) => {
-            io::write_all(
-                STDERR_FILENO,
-                b"a serial, a sequence number or a coordinate in the line of that number is not right\n",
-            );
-        }
-        Refusal::AbsentResidue(_) => {
-            io::write_all(
-                STDERR_FILENO,
-                b"the helix or strand in the line of that number names a residue that no ATOM line has\n",
-            );
-        }
-        Refusal::PastLimits => {
-            io::write_all(
-                STDERR_FILENO,
-                b"a job has at most 255 chains, 16384 residues, 65535 segments and 65535 atoms\n",
-            );
-        }
-        Refusal::NoJobRoom(_) => {
-            io::write_all(
-                STDERR_FILENO,
-                b"the job needs so many bytes, and this program has room for 2100000\n",
-            );
-        }
-        _ => {}
+// Says what was read, and writes the job, or says why it cannot be written: a job that is cut short is none.
+fn send(file: &[u8], job: &[u8]) -> bool {
+    pdb_notes::tell(file, job);
+    if io::write_all(STDOUT_FILENO, job) {
+        return true;
     }
+    os::fail(b"ribbon-job: the job cannot be written");
+    false
 }
 
-fn write_job(file: &[u8], job: &mut [u8]) {
+// Whether the job was written whole.
+fn write_job(file: &[u8], job: &mut [u8]) -> bool {
     let a = pdb_reader::read_pdb(file, job);
     match a {
-        Read::Written(n) => {
-            io::write_all(STDOUT_FILENO, &job[..n]);
-        }
+        Read::Written(n) => send(file, &job[..n]),
         Read::NoJob(r) => {
             let mut line = [0u8; 256];
             let n = ribbon_text::refused_line(&mut line, r);
             io::write_all(STDERR_FILENO, &line[..n]);
-            explain(r);
+            pdb_notes::blame(file, r);
+            words::explain(r);
+            false
         }
     }
 }
 
-// The file that the first argument names, standard input where there is none, or -1.
-fn open() -> i32 {
-    if os::arg_count() < 2 {
-        return STDIN_FILENO;
+// Whether the job of the file behind a descriptor was written.
+fn convert(from: i32) -> bool {
+    let mut file = room_for_file();
+    let mut job = room_for_job();
+    let got = files::read_all(from, &mut file);
+    if got < 0 {
+        os::fail(b"ribbon-job: the file cannot be read");
+        return false;
     }
-    let mut path = io::buffer();
-    let n = os::arg(1, &mut path);
-    if os::errno() != 0 {
-        os::fail(b"ribbon-job: path");
-        return -1;
+    let n = io::count(got, &file);
+    if 5000000 < n {
+        say(
+            b"too long: ribbon-job has room for a file of 5000000 bytes\nwhat to do: split the file by its chains, or read it with the library, which has no such limit (include/ribbon.h)\n",
+        );
+        return false;
     }
-    let file = os::open_read(&path[..n]);
-    if file < 0 {
-        os::fail(&path[..n]);
-    }
-    file
+    write_job(&file[..n], &mut job)
 }
 
 fn main() {
-    let from = open();
+    let from = files::open_first();
     if from < 0 {
+        files::end(false);
         return;
     }
-    let mut file = room_for_file();
-    let mut job = room_for_job();
-    let n = io::read_full(from, &mut file);
-    if 5000000 < n {
-        io::write_all(
-            STDERR_FILENO,
-            b"too long: this program has room for a file of 5000000 bytes\n",
-        );
-        return;
-    }
-    write_job(&file[..n], &mut job);
+    files::end(convert(from));
 }

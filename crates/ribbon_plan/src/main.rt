@@ -1,10 +1,19 @@
-// The program `ribbon-plan`: reads a job on standard input and prints its counts and its tubes, or the refusal.
-use libc::STDIN_FILENO;
+// The program `ribbon-plan`: reads a job, from the file that is named or from standard input, and prints its counts and its tubes, or the refusal.
+use files::say;
 use libc::STDOUT_FILENO;
 use ribbon::Planned;
 
+// Whether a line was written whole.
+fn print(line: &[u8]) -> bool {
+    if io::write_all(STDOUT_FILENO, line) {
+        return true;
+    }
+    os::fail(b"ribbon-plan: the plan cannot be written");
+    false
+}
+
 // One tube's line, from a plan call of its own.
-fn print_tube(job: &[u8], k: usize, words: &mut [u32], floats: &mut [f32]) {
+fn print_tube(job: &[u8], k: usize, words: &mut [u32], floats: &mut [f32]) -> bool {
     let a = ribbon::plan(job, k, words, floats);
     match a {
         Planned::Plan(_, f) => {
@@ -18,45 +27,71 @@ fn print_tube(job: &[u8], k: usize, words: &mut [u32], floats: &mut [f32]) {
                 f.vertex,
                 f.triangle,
             );
-            io::write_all(STDOUT_FILENO, &line[..n]);
+            print(&line[..n])
         }
-        Planned::NoPlan(_) => {}
+        Planned::NoPlan(_) => false,
     }
 }
 
-fn print_tubes(job: &[u8], tubes: usize, words: &mut [u32], floats: &mut [f32]) {
+fn print_tubes(job: &[u8], tubes: usize, words: &mut [u32], floats: &mut [f32]) -> bool {
     let mut k = 0;
     while k < tubes {
-        print_tube(job, k, words, floats);
+        if !print_tube(job, k, words, floats) {
+            return false;
+        }
         k += 1;
     }
+    true
 }
 
-fn print_plan(job: &[u8], words: &mut [u32], floats: &mut [f32]) {
+// Whether the whole plan was printed.
+fn print_plan(job: &[u8], words: &mut [u32], floats: &mut [f32]) -> bool {
     let mut line = [0u8; 256];
     let a = ribbon::plan(job, 0, words, floats);
     match a {
         Planned::Plan(c, _) => {
             let n = ribbon_text::totals_line(&mut line, c.tubes, c.vertices, c.triangles);
-            io::write_all(STDOUT_FILENO, &line[..n]);
-            print_tubes(job, c.tubes, words, floats);
+            if !print(&line[..n]) {
+                return false;
+            }
+            print_tubes(job, c.tubes, words, floats)
         }
         Planned::NoPlan(r) => {
             let n = ribbon_text::refused_line(&mut line, r);
-            io::write_all(STDOUT_FILENO, &line[..n]);
+            print(&line[..n]);
+            words::explain(r);
+            false
         }
     }
 }
 
-fn main() {
+// Whether the job behind a descriptor has a plan, and it was printed.
+fn plan(from: i32) -> bool {
     // one byte more than is accepted, so that a longer job shows
     let mut job = [0u8; 65537];
     let mut words = [0u32; 4096];
     let mut floats = [0.0f32; 16384];
-    let n = io::read_full(STDIN_FILENO, &mut job);
+    let got = files::read_all(from, &mut job);
+    if got < 0 {
+        os::fail(b"ribbon-plan: the job cannot be read");
+        return false;
+    }
+    let n = io::count(got, &job);
     if 65536 < n {
-        io::write_all(STDOUT_FILENO, b"too long\n");
+        print(b"too long\n");
+        say(
+            b"ribbon-plan takes jobs of 65536 bytes and 512 residues\nwhat to do: plan it with the library, which takes every job (include/ribbon.h)\n",
+        );
+        return false;
+    }
+    print_plan(&job[..n], &mut words, &mut floats)
+}
+
+fn main() {
+    let from = files::open_first();
+    if from < 0 {
+        files::end(false);
         return;
     }
-    print_plan(&job[..n], &mut words, &mut floats);
+    files::end(plan(from));
 }

@@ -1,4 +1,4 @@
-use Rattle.pdb_reader.proofs.Wanted.{empty-index}
+use Rattle.appearance.proofs.Holding.{empty-index}
 use Rattle.pdb_reader.proofs.past.forget.Statement.{statement}
 use Rattle.pdb_reader.proofs.past.forget.Tie as tie
 

@@ -1,0 +1,21 @@
+use borrow.Author.Needs.{needs}
+use Rattle.pdb_notes.proofs.lines.is_alpha.Statement.{statement}
+use Rattle.pdb_notes.proofs.lines.is_alpha.Tie as tie
+
+returns : tie.Need-returns
+returns c = simp (c .before .before .r .given .1)
+
+pub is-alpha-spec : {M : Type 1} → statement M
+is-alpha-spec =
+    tie.close
+    (tie.spec
+    (λ c. search needs)
+    (λ c. search needs)
+    (λ c. search needs)
+    (λ c. search needs)
+    (λ c. search needs)
+    returns
+    (λ c. search needs)
+    (λ c. search needs)
+    (λ c. search needs)
+    (λ c. search needs))
