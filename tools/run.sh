@@ -92,3 +92,9 @@ one_file() { # [WORD ...]
     [ $# -le 1 ] || { usage >&2; exit 2; }
     [ $# = 0 ] || file=("$1")
 }
+
+# The words of a command that takes none.
+no_words() { # [WORD ...]
+    case ${1-} in -h | --help) usage; exit 0 ;; esac
+    [ $# = 0 ] || { usage >&2; exit 2; }
+}

@@ -8,10 +8,11 @@ use lib.ListN.{length, take, drop}
 use Rattle.appearance.specs.Index.{Index, Holding}
 use Rattle.appearance.specs.Order.{order}
 use Rattle.pdb_records.specs.Records.{atomOf}
-use Rattle.pdb_notes.specs.Notes.{linesFrom, linesOf, nameIn, namesOf}
-use Rattle.pdb_notes.specs.Post.{Onward}
-use Rattle.pdb_notes.specs.declared.lines.What.{What}
-use Rattle.pdb_notes.specs.declared.lines.Spot.{Spot}
+use Rattle.pdb_search.specs.Kinds.{linesFrom, linesOf, nameIn}
+use Rattle.pdb_notes.specs.Notes.{namesOf}
+use Rattle.pdb_search.specs.Post.{Onward}
+use Rattle.pdb_search.specs.declared.What.{What}
+use Rattle.pdb_search.specs.declared.Spot.{Spot}
 
 -- the names `done` are behind: the index held n keys before the walk, and holds m
 pub record Gathering (w : What) (s keys₀ links₀ : List ℕ) (n : ℕ) (keys links : List ℕ) (at : ℕ) (seen : Bool) (m : ℕ) : Type 0 where

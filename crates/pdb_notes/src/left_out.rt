@@ -1,15 +1,16 @@
 // Residues that are left out of a job, since their C-alphas stand in HETATM lines: modified residues, such as selenomethionine. A ribbon has a gap there.
-use crate::lines::Next;
-use crate::lines::What;
-use crate::lines::name_in;
-use crate::lines::next_line;
 use crate::quote::say_bytes;
 use files::say;
+use pdb_search::Next;
+use pdb_search::What;
+use pdb_search::name_in;
+use pdb_search::next_line;
 ghost use mathlib.Core.Path.{_≡_};
 ghost use mathlib.Core.List.{List, _++_};
 ghost use Prim.Native.Nat.{ℕ, _+_, _<_, _≤_};
 ghost use Rattle.appearance.specs.Index.{Index, Holding};
-ghost use Rattle.pdb_notes.specs.Notes.{linesOf, namesOf, modelled, resolved};
+ghost use Rattle.pdb_search.specs.Kinds.{linesOf};
+ghost use Rattle.pdb_notes.specs.Notes.{namesOf, modelled, resolved};
 
 // How many residues have a C-alpha in ATOM lines, and how many in ATOM or HETATM lines; 16,384 stands for so many or more.
 pub struct Residues {

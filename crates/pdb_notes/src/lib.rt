@@ -2,7 +2,6 @@
 // answer depends on it: a line that begins with `note:` goes with a job that was written.
 mod fault;
 mod left_out;
-mod lines;
 mod quote;
 
 use fault::Blame;
@@ -11,10 +10,10 @@ use files::say;
 use job::Refusal;
 use left_out::count_residues;
 use libc::STDERR_FILENO;
-use lines::Next;
-use lines::What;
-use lines::count_lines;
-use lines::next_line;
+use pdb_search::Next;
+use pdb_search::What;
+use pdb_search::count_lines;
+use pdb_search::next_line;
 use quote::say_bytes;
 
 fn say_number(name: &[u8], n: usize) {
@@ -48,7 +47,12 @@ fn has_byte(s: &[u8], b: u8) -> bool {
 
 // A file with no ATOM line may be something else.
 fn tell_form(s: &[u8]) {
-    say(b"note: no ATOM line was read: is this a PDB file? ");
+    say(b"note: no ATOM line was read: ");
+    if 0 < count_lines(s, What::Atoms) {
+        say(b"the first model has none, and what follows its ENDMDL is not read\n");
+        return;
+    }
+    say(b"is this a PDB file? ");
     if pdb_lines::is_at(s, 0, &[31u8, 139u8]) {
         say(b"It is packed by gzip: unpack it first (gunzip)\n");
         return;
@@ -57,11 +61,7 @@ fn tell_form(s: &[u8]) {
         say(b"It looks like mmCIF, which is not read yet: take the PDB file of the structure\n");
         return;
     }
-    if pdb_lines::is_at(s, 0, &[255u8, 254u8]) {
-        say(b"It is UTF-16 text: save it as plain ASCII\n");
-        return;
-    }
-    if pdb_lines::is_at(s, 0, &[254u8, 255u8]) {
+    if is_wide(s) {
         say(b"It is UTF-16 text: save it as plain ASCII\n");
         return;
     }
@@ -69,15 +69,19 @@ fn tell_form(s: &[u8]) {
         say(b"It is empty\n");
         return;
     }
-    if has_byte(s, 10) {
-        say(b"Such a line begins with ATOM and two blanks, in capitals\n");
-        return;
-    }
-    if has_byte(s, 13) {
+    if is_one_line(s) {
         say(b"Its lines end at CR alone: turn each CR into an LF (tr '\\r' '\\n')\n");
         return;
     }
-    say(b"It has no line end at all\n");
+    say(b"Such a line begins with ATOM and two blanks, in capitals\n");
+}
+
+// The mark of UTF-16 text.
+fn is_wide(s: &[u8]) -> bool {
+    if pdb_lines::is_at(s, 0, &[255u8, 254u8]) {
+        return true;
+    }
+    pdb_lines::is_at(s, 0, &[254u8, 255u8])
 }
 
 fn has_atoms(job: &[u8]) -> bool {
@@ -91,6 +95,22 @@ fn tell_alphas(alphas: usize) {
     if alphas == 0 {
         say(
             b"note: no atom is a C-alpha, so there is nothing to draw: an atom's name stands in columns 13 to 16, a C-alpha's is ' CA '\n",
+        );
+    }
+}
+
+// CR alone ends no line: the whole file is one.
+fn is_one_line(s: &[u8]) -> bool {
+    if has_byte(s, 10) {
+        return false;
+    }
+    has_byte(s, 13)
+}
+
+fn tell_line(s: &[u8]) {
+    if is_one_line(s) {
+        say(
+            b"note: the lines end at CR alone, so that the whole file is one line: turn each CR into an LF (tr '\\r' '\\n')\n",
         );
     }
 }
@@ -126,7 +146,7 @@ fn tell_left_out(s: &[u8]) {
     if r.resolved == 16384 {
         say(b" or more");
     }
-    say(b"); the ribbon has a gap at each, and a helix or strand over it comes in pieces\n");
+    say(b"); the ribbon lacks them, and a helix or strand over one comes in pieces\n");
 }
 
 fn tell_ends(s: &[u8]) {
@@ -150,6 +170,7 @@ pub fn tell(s: &[u8], job: &[u8]) {
     tell_left_out(s);
     if has_atoms(job) {
         tell_alphas(alphas);
+        tell_line(s);
         tell_ends(s);
     } else {
         tell_form(s);
@@ -163,5 +184,15 @@ pub fn blame(s: &[u8], r: Refusal) {
         Refusal::BadNumber(n) => blame_line(s, n, Blame::Digits),
         Refusal::AbsentResidue(n) => blame_line(s, n, Blame::Residue),
         _ => {}
+    }
+}
+
+// A refused file may be something else.
+pub fn suspect(s: &[u8]) {
+    tell_line(s);
+    if 0 < count_lines(s, What::Items) {
+        say(
+            b"the file looks like mmCIF, which is not read yet: take the PDB file of the structure\n",
+        );
     }
 }

@@ -36,6 +36,7 @@ fn write_job(file: &[u8], job: &mut [u8]) -> bool {
             io::write_all(STDERR_FILENO, &line[..n]);
             pdb_notes::blame(file, r);
             words::explain(r);
+            pdb_notes::suspect(file);
             false
         }
     }

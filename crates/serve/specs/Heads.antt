@@ -1,9 +1,9 @@
 -- What holds of the head of a request.
 use Rattle.stream.specs.Requests.{Small}
 use Rattle.serve.specs.declared.Head.{Head}
-use Rattle.serve.specs.declared.Head.the-variants.{Asks, Ended}
+use Rattle.serve.specs.declared.Head.the-variants.{Asks, Over}
 
 -- a request's lengths are words
 abbrev pub Bounded : Head → Type 0
 Bounded (Asks r) = Small r
-Bounded Ended = Unit
+Bounded (Over e) = Unit

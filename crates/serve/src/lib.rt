@@ -1,4 +1,5 @@
 // Reads requests to the ribbon builder and has them answered: what `ribbon_batch` and `replay` share.
+use files::Filled;
 use stream::requests::Lengths;
 use stream::requests::Request;
 use stream::requests::is_served;
@@ -14,37 +15,74 @@ ghost use Rattle.serve.specs.Heads.{Bounded};
 ghost use Rattle.stream.specs.Requests.{Serves};
 ghost use Rattle.stream.specs.Sinks.{Ready};
 
-// What became of one request: answered, with whether the answer was written or was as recorded; or the input ended.
+// Why no more requests are answered: the input ended behind a request; it ended within one; a read failed; or an answer did not go out whole or is not as recorded.
+pub enum End {
+    Whole,
+    Cut,
+    Unread,
+    Unsent,
+}
+
+// What became of one request: answered, with whether the answer was written or was as recorded; or the input did not give it whole.
 enum Served {
     Answered(bool),
-    Ended,
+    Over(End),
 }
 
 enum Head {
     Asks(Request),
-    Ended,
+    Over(End),
 }
 
-// Reads n bytes and forgets them; false where the input ends before that.
-fn pass_over(from: i32, n: usize, bytes: &mut [u8]) -> bool
+fn is_whole(got: Filled) -> bool {
+    match got {
+        Filled::Whole => true,
+        Filled::Nothing => false,
+        Filled::Cut => false,
+        Filled::Failed => false,
+    }
+}
+
+// The end of an input that did not give all bytes of a request.
+fn end_within(got: Filled) -> End {
+    match got {
+        Filled::Failed => End::Unread,
+        Filled::Whole => End::Cut,
+        Filled::Nothing => End::Cut,
+        Filled::Cut => End::Cut,
+    }
+}
+
+// The end of an input that gave no head, or not all of it.
+fn end_of(h: Head) -> End {
+    match h {
+        Head::Over(e) => e,
+        Head::Asks(_) => End::Whole,
+    }
+}
+
+// Reads n bytes and forgets them.
+fn pass_over(from: i32, n: usize, bytes: &mut [u8]) -> Filled
     requires { ⌜ 0 < length (now bytes) ⌝ }
 {
     let mut left = n;
     while bytes.len() < left {
-        if io::read_full(from, bytes) < bytes.len() {
-            return false;
+        let got = files::fill(from, bytes);
+        if !is_whole(got) {
+            return got;
         }
         left -= bytes.len();
     }
-    io::read_full(from, &mut bytes[..left]) == left
+    files::fill(from, &mut bytes[..left])
 }
 
 // The answer to a request that the program does not serve is the one word FFFFFFFF.
 fn refuse(from: i32, s: Sink, n: usize, bytes: &mut [u8], out: &mut [u8]) -> Served
     requires { ⌜ Ready s (length (now out)) × (0 < length (now bytes)) ⌝ }
 {
-    if !pass_over(from, n, bytes) {
-        return Served::Ended;
+    let got = pass_over(from, n, bytes);
+    if !is_whole(got) {
+        return Served::Over(end_within(got));
     }
     let none = [0xffff_ffffu32];
     let t = flush(send_words(s, out, &none), out);
@@ -69,8 +107,9 @@ fn serve_read(
     if lent.len() < m {
         return refuse(from, s, n, bytes, out);
     }
-    if io::read_full(from, &mut bytes[..n]) < n {
-        return Served::Ended;
+    let got = files::fill(from, &mut bytes[..n]);
+    if !is_whole(got) {
+        return Served::Over(end_within(got));
     }
     let t = replies::answer_read(s, &bytes[..n], &mut lent[..m], out);
     let u = flush(t, out);
@@ -81,10 +120,13 @@ fn read_head(from: i32) -> Head
     ensures { λ h. ⌜ Bounded h ⌝ }
 {
     let mut head = [0u8; 41];
-    if io::read_full(from, &mut head) < 41 {
-        return Head::Ended;
+    let got = files::fill(from, &mut head);
+    match got {
+        Filled::Whole => Head::Asks(request_of(&head)),
+        Filled::Nothing => Head::Over(End::Whole),
+        Filled::Cut => Head::Over(End::Cut),
+        Filled::Failed => Head::Over(End::Unread),
     }
-    Head::Asks(request_of(&head))
 }
 
 // A request that is served: its bytes are read, and it is answered.
@@ -106,8 +148,9 @@ fn answer_next(
     requires { ⌜ Ready s (length (now out)) × Serves r (own (length (now positions)) (length (now normals)) (length (now tags)) (length (now triangles)) (length (now tubes)) (length (now boxes)) (length (now words)) (length (now floats))) (length (now bytes)) ⌝ }
 {
     let n = r.bytes;
-    if io::read_full(from, &mut bytes[..n]) < n {
-        return Served::Ended;
+    let got = files::fill(from, &mut bytes[..n]);
+    if !is_whole(got) {
+        return Served::Over(end_within(got));
     }
     let t = replies::answer(
         s,
@@ -148,7 +191,7 @@ fn serve(
 {
     let h = read_head(from);
     let Head::Asks(r) = h else {
-        return Served::Ended;
+        return Served::Over(end_of(h));
     };
     if r.call == 4 {
         let lent = r.lent;
@@ -191,10 +234,17 @@ fn room_for_bytes() -> [u8; 1048576]
     [0u8; 1048576]
 }
 
-// How many requests were answered before the input ended, or before the first answer that did not go out whole or is not as recorded.
+// How many requests were answered, and why no more were.
 pub struct Run {
     pub answered: u64,
-    pub good: bool,
+    pub end: End,
+}
+
+fn end_of_served(a: Served) -> End {
+    match a {
+        Served::Over(e) => e,
+        Served::Answered(_) => End::Whole,
+    }
 }
 
 // Every request on a descriptor, answered to a sink whose block is empty. No loop here is endless: this one ends after 2^48 requests.
@@ -230,18 +280,21 @@ pub fn serve_all(from: i32, s: Sink) -> Run
             &mut out,
         );
         let Served::Answered(good) = a else {
-            break;
+            return Run {
+                answered: n,
+                end: end_of_served(a),
+            };
         };
         if !good {
             return Run {
                 answered: n,
-                good: false,
+                end: End::Unsent,
             };
         }
         n += 1;
     }
     Run {
         answered: n,
-        good: true,
+        end: End::Whole,
     }
 }

@@ -1,4 +1,4 @@
-use Rattle.pdb_notes.proofs.Laws.{found-got}
+use Rattle.pdb_search.proofs.Laws.{found-got}
 use borrow.Author.Needs.{needs}
 use Rattle.pdb_notes.proofs.tell_misspelt.Statement.{statement}
 use Rattle.pdb_notes.proofs.tell_misspelt.Tie as tie

@@ -1,15 +1,11 @@
 use lib.Ieee.{binary32, ofBits}
 use lib.ListN.{length, length-replicate}
-use Prim.Native.Nat.{ℕ, _≤_, _<_, _-_}
-use mathlib.Core.Path.{_≡_, refl, sym, _∙_}
+use Prim.Native.Nat.{ℕ, _-_}
+use mathlib.Core.Path.{_≡_, sym}
 use native.Mathlib.Omega.{arith}
 use borrow.Author.Needs.{needs}
 use Rattle.serve.proofs.serve_all.Statement.{statement}
 use Rattle.serve.proofs.serve_all.Tie as tie
-use Rattle.serve.proofs.serve_all.Reads as reads
-use Rattle.serve.proofs.serve_all.Lts as lts
-use Rattle.serve.proofs.room_for_bytes.Reads as room-for-bytes-reads
-use Rattle.serve.proofs.serve.Reads as serve-reads
 
 abbrev Inv-loop : tie.InvT-loop
 Inv-loop from s positions₀ normals₀ tags₀ triangles₀ tubes₀ boxes₀ words₀ floats₀ job₀ bytes₀ out₀ n₀ positions normals tags triangles tubes boxes words floats job bytes out n = (102000 ≡ length positions) × (102000 ≡ length normals) × (34000 ≡ length tags) × (203988 ≡ length triangles) × (5120 ≡ length tubes) × (6144 ≡ length boxes) × (4096 ≡ length words) × (16384 ≡ length floats) × (102000 ≡ length job) × (1048576 ≡ length bytes) × (65536 ≡ length out)
@@ -17,91 +13,63 @@ Inv-loop from s positions₀ normals₀ tags₀ triangles₀ tubes₀ boxes₀ w
 abbrev μ-loop : tie.MeasureT-loop
 μ-loop from s positions₀ normals₀ tags₀ triangles₀ tubes₀ boxes₀ words₀ floats₀ job₀ bytes₀ out₀ n₀ positions normals tags triangles tubes boxes words floats job bytes out n = 281474976710656 - n
 
--- src/lib.rt:476:21
 room-for-bytes-requires : tie.Need-room-for-bytes-requires Inv-loop μ-loop
 room-for-bytes-requires c κs = tt
 
--- src/lib.rt:479:5
 loop-holds : tie.Need-loop-holds Inv-loop μ-loop
 loop-holds c = (sym (length-replicate 102000 (ofBits binary32 0)), sym (length-replicate 102000 (ofBits binary32 0)), sym (length-replicate {A = ℕ} 34000 0), sym (length-replicate {A = ℕ} 203988 0), sym (length-replicate {A = ℕ} 5120 0), sym (length-replicate 6144 (ofBits binary32 0)), sym (length-replicate {A = ℕ} 4096 0), sym (length-replicate 16384 (ofBits binary32 0)), sym (length-replicate {A = ℕ} 102000 0), c .room-for-bytes .ensures, sym (length-replicate {A = ℕ} 65536 0))
 
--- src/lib.rt:483:13
 slice-aggregate-serve : tie.Need-slice-aggregate-serve Inv-loop μ-loop
 slice-aggregate-serve c = c .before .before .loop .inv .0
 
--- src/lib.rt:484:13
 slice-aggregate-serve-2 : tie.Need-slice-aggregate-serve-2 Inv-loop μ-loop
 slice-aggregate-serve-2 c = c .before .before .before .loop .inv .1
 
--- src/lib.rt:485:13
 slice-aggregate-serve-3 : tie.Need-slice-aggregate-serve-3 Inv-loop μ-loop
 slice-aggregate-serve-3 c = c .before .before .before .before .loop .inv .2
 
--- src/lib.rt:486:13
 slice-aggregate-serve-4 : tie.Need-slice-aggregate-serve-4 Inv-loop μ-loop
 slice-aggregate-serve-4 c = c .before .before .before .before .before .loop .inv .3
 
--- src/lib.rt:487:13
 slice-aggregate-serve-5 : tie.Need-slice-aggregate-serve-5 Inv-loop μ-loop
 slice-aggregate-serve-5 c = c .before .before .before .before .before .before .loop .inv .4
 
--- src/lib.rt:488:13
 slice-aggregate-serve-6 : tie.Need-slice-aggregate-serve-6 Inv-loop μ-loop
 slice-aggregate-serve-6 c = c .before .before .before .before .before .before .before .loop .inv .5
 
--- src/lib.rt:489:13
 slice-aggregate-serve-7 : tie.Need-slice-aggregate-serve-7 Inv-loop μ-loop
 slice-aggregate-serve-7 c = c .before .before .before .before .before .before .before .before .loop .inv .6
 
--- src/lib.rt:490:13
 slice-aggregate-serve-8 : tie.Need-slice-aggregate-serve-8 Inv-loop μ-loop
 slice-aggregate-serve-8 c = c .before .before .before .before .before .before .before .before .before .loop .inv .7
 
--- src/lib.rt:491:13
 slice-aggregate-serve-9 : tie.Need-slice-aggregate-serve-9 Inv-loop μ-loop
 slice-aggregate-serve-9 c = c .before .before .before .before .before .before .before .before .before .before .loop .inv .8
 
--- src/lib.rt:492:13
 slice-aggregate-serve-10 : tie.Need-slice-aggregate-serve-10 Inv-loop μ-loop
 slice-aggregate-serve-10 c = c .before .before .before .before .before .before .before .before .before .before .before .loop .inv .9
 
--- src/lib.rt:493:13
 slice-aggregate-serve-11 : tie.Need-slice-aggregate-serve-11 Inv-loop μ-loop
 slice-aggregate-serve-11 c = c .before .before .before .before .before .before .before .before .before .before .before .before .loop .inv .10
 
--- src/lib.rt:480:13
 serve-requires : tie.Need-serve-requires Inv-loop μ-loop
 serve-requires c κs = (omega (arith, c .before .before .before .before .before .before .before .before .before .before .before .before .before .before .pre, c .before .before .before .before .before .before .before .before .before .before .before .before .loop .inv .10), omega (arith, c .before .before .before .before .before .before .before .before .before .before .before .before .loop .inv .9))
 
--- src/lib.rt:495:30
-enum-known-a : tie.Need-enum-known-a Inv-loop μ-loop
-enum-known-a c = search needs
-
--- src/lib.rt:496:13
-enum-told : tie.Need-enum-told Inv-loop μ-loop
-enum-told c = search needs
-
--- src/lib.rt:499:13
 returns : tie.Need-returns Inv-loop μ-loop
 returns c = tt
 
--- src/lib.rt:504:9
-add-n : tie.Need-add-n Inv-loop μ-loop
-add-n c = omega arith
-
--- src/lib.rt:479:5
-loop-less : tie.Need-loop-less Inv-loop μ-loop
-loop-less c = omega arith
-
--- src/lib.rt:479:5
-loop-again : tie.Need-loop-again Inv-loop μ-loop
-loop-again c = (sym (c .before .before .before .before .before .before .before .before .before .before .before .before .before .before .positions2 .given), sym (c .before .before .before .before .before .before .before .before .before .before .before .before .before .normals2 .given), sym (c .before .before .before .before .before .before .before .before .before .before .before .before .tags2 .given), sym (c .before .before .before .before .before .before .before .before .before .before .before .triangles2 .given), sym (c .before .before .before .before .before .before .before .before .before .before .tubes2 .given), sym (c .before .before .before .before .before .before .before .before .before .boxes2 .given), sym (c .before .before .before .before .before .before .before .before .words2 .given), sym (c .before .before .before .before .before .before .before .floats2 .given), sym (c .before .before .before .before .before .before .job2 .given), sym (c .before .before .before .before .before .bytes2 .given), sym (c .before .before .before .before .out2 .given))
-
--- src/lib.rt:464:1
 returns-2 : tie.Need-returns-2 Inv-loop μ-loop
 returns-2 c = tt
 
--- src/lib.rt:464:1
+add-n : tie.Need-add-n Inv-loop μ-loop
+add-n c = omega arith
+
+loop-less : tie.Need-loop-less Inv-loop μ-loop
+loop-less c = omega arith
+
+loop-again : tie.Need-loop-again Inv-loop μ-loop
+loop-again c = (sym (c .before .before .before .before .before .before .before .before .before .before .before .before .before .before .positions2 .given), sym (c .before .before .before .before .before .before .before .before .before .before .before .before .before .normals2 .given), sym (c .before .before .before .before .before .before .before .before .before .before .before .before .tags2 .given), sym (c .before .before .before .before .before .before .before .before .before .before .before .triangles2 .given), sym (c .before .before .before .before .before .before .before .before .before .before .tubes2 .given), sym (c .before .before .before .before .before .before .before .before .before .boxes2 .given), sym (c .before .before .before .before .before .before .before .before .words2 .given), sym (c .before .before .before .before .before .before .before .floats2 .given), sym (c .before .before .before .before .before .before .job2 .given), sym (c .before .before .before .before .before .bytes2 .given), sym (c .before .before .before .before .out2 .given))
+
 returns-3 : tie.Need-returns-3 Inv-loop μ-loop
 returns-3 c = tt
 
@@ -125,11 +93,12 @@ serve-all-spec =
     slice-aggregate-serve-10
     slice-aggregate-serve-11
     serve-requires
-    enum-known-a
-    enum-told
+    (λ c. search needs)
+    (λ c. search needs)
+    (λ c κs. search needs)
     returns
+    returns-2
     add-n
     loop-less
     loop-again
-    returns-2
     returns-3)

@@ -2,7 +2,7 @@ use Prim.Native.Nat.{_-_}
 use lib.ListN.{length}
 use native.Mathlib.Omega.{arith}
 use borrow.Author.Needs.{needs}
-use Rattle.pdb_notes.proofs.Laws.{found-done, found-got}
+use Rattle.pdb_search.proofs.Laws.{found-done, found-got}
 use Rattle.pdb_notes.proofs.Gathering.{Gathering, gathering-start, gathering-over, gathering-more}
 use Rattle.pdb_notes.proofs.left_out.gather.Statement.{statement}
 use Rattle.pdb_notes.proofs.left_out.gather.Tie as tie

@@ -1,4 +1,5 @@
-// The lines of a file that say what was not read.
+// The lines of a PDB file that tell what was read of it and what was not: C-alphas in ATOM lines and in HETATM lines, END lines, MODEL lines, lines that are nearly
+// a record. No answer of a call depends on them; what a person is told does.
 use pdb_records::Kind;
 use pdb_records::Record;
 ghost use mathlib.Core.Path.{_≡_};
@@ -8,10 +9,10 @@ ghost use lib.ListN.{length};
 ghost use Rattle.pdb_lines.specs.Columns.{named};
 ghost use Rattle.pdb_records.specs.Records.{atomOf};
 ghost use Rattle.pdb_reading.specs.Reading.{stops};
-ghost use Rattle.pdb_notes.specs.Notes.{isAlpha, isEnd, hasLetters, isOther, isMisspelt, nameIn, passes, everywhere, linesOf};
-ghost use Rattle.pdb_notes.specs.Post.{Found};
+ghost use Rattle.pdb_search.specs.Kinds.{isAlpha, isEnd, hasLetters, isOther, isMisspelt, nameIn, passes, everywhere, linesOf};
+ghost use Rattle.pdb_search.specs.Post.{Found};
 
-// Which lines: MODEL lines, END lines and the items of an mmCIF file, in the whole file; of the lines that are read, C-alphas in ATOM and in HETATM lines, and
+// Which lines: MODEL lines, END lines, ATOM lines and the items of an mmCIF file, in the whole file; of the lines that are read, C-alphas in ATOM and in HETATM lines, and
 // lines that begin as a record does and are none.
 pub enum What {
     Models,
@@ -20,6 +21,7 @@ pub enum What {
     Heteros,
     Misspelt,
     Items,
+    Atoms,
 }
 
 // Where a line stands, where the next one begins, and whether a MODEL line was read up to there.
@@ -132,6 +134,7 @@ fn is_wanted(w: What, l: &[u8]) -> bool
         What::Heteros => is_alpha_line(l, b"HETATM"),
         What::Misspelt => is_misspelt(l),
         What::Items => pdb_lines::is_at(l, 0, b"_atom_site"),
+        What::Atoms => pdb_lines::is_at(l, 0, b"ATOM  "),
     }
 }
 
@@ -146,6 +149,7 @@ fn is_over(w: What, seen: bool, k: Kind) -> bool
         What::Heteros => pdb_reading::stops_at(seen, k),
         What::Misspelt => pdb_reading::stops_at(seen, k),
         What::Items => false,
+        What::Atoms => false,
     }
 }
 

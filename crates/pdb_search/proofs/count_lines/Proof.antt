@@ -2,9 +2,9 @@ use Prim.Native.Nat.{_-_}
 use lib.ListN.{length}
 use native.Mathlib.Omega.{arith}
 use borrow.Author.Needs.{needs}
-use Rattle.pdb_notes.proofs.Laws.{Counting, counting-start, counting-over, counting-more, found-done, found-got}
-use Rattle.pdb_notes.proofs.lines.count_lines.Statement.{statement}
-use Rattle.pdb_notes.proofs.lines.count_lines.Tie as tie
+use Rattle.pdb_search.proofs.Laws.{Counting, counting-start, counting-over, counting-more, found-done, found-got}
+use Rattle.pdb_search.proofs.count_lines.Statement.{statement}
+use Rattle.pdb_search.proofs.count_lines.Tie as tie
 
 abbrev Inv-loop : tie.InvT-loop
 Inv-loop s w at₀ seen₀ n₀ at seen n = Counting w s at seen n

@@ -1,8 +1,8 @@
 use borrow.Author.Tests.{not-true, not-false, le-leb, lt-leb}
 use mathlib.Core.Path.{sym, _∙_}
 use borrow.Author.Needs.{needs}
-use Rattle.pdb_notes.proofs.lines.is_end.Statement.{statement}
-use Rattle.pdb_notes.proofs.lines.is_end.Tie as tie
+use Rattle.pdb_search.proofs.is_end.Statement.{statement}
+use Rattle.pdb_search.proofs.is_end.Tie as tie
 
 returns : tie.Need-returns
 returns c = simp (sym (c .before .is-at .ensures) ∙ not-true _ (c .if1 .taken))

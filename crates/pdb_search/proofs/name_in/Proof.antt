@@ -1,11 +1,11 @@
 use mathlib.Core.Path.{_∙_}
 use Rattle.pdb_records.specs.Records.{ofKind}
 use borrow.Author.Needs.{needs}
-use Rattle.pdb_notes.proofs.lines.name_in.Statement.{statement}
-use Rattle.pdb_notes.proofs.lines.name_in.Tie as tie
-use Rattle.pdb_notes.proofs.lines.name_in.Reads as reads
-use Rattle.pdb_notes.proofs.lines.name_in.Lts as lts
-use Rattle.pdb_notes.proofs.lines.name_of.Reads as name-of-reads
+use Rattle.pdb_search.proofs.name_in.Statement.{statement}
+use Rattle.pdb_search.proofs.name_in.Tie as tie
+use Rattle.pdb_search.proofs.name_in.Reads as reads
+use Rattle.pdb_search.proofs.name_in.Lts as lts
+use Rattle.pdb_search.proofs.name_of.Reads as name-of-reads
 use Rattle.pdb_records.proofs.record_of.Reads as record-of-reads
 
 -- src/lines.rt:65:13

@@ -4,11 +4,11 @@ use mathlib.Core.List.{List, [], _∷_}
 use mathlib.Core.Bool.{Bool}
 use mathlib.Core.Path.{_≡_}
 use lib.ListN.{length, take, drop}
-use Rattle.pdb_notes.specs.Notes.{linesFrom}
-use Rattle.pdb_notes.specs.declared.lines.What.{What}
-use Rattle.pdb_notes.specs.declared.lines.Spot.{Spot}
-use Rattle.pdb_notes.specs.declared.lines.Next.{Next}
-use Rattle.pdb_notes.specs.declared.lines.Next.the-variants.{Done, Got}
+use Rattle.pdb_search.specs.Kinds.{linesFrom}
+use Rattle.pdb_search.specs.declared.What.{What}
+use Rattle.pdb_search.specs.declared.Spot.{Spot}
+use Rattle.pdb_search.specs.declared.Next.{Next}
+use Rattle.pdb_search.specs.declared.Next.the-variants.{Done, Got}
 
 -- the next line of the kind stands at the spot, and the others behind it
 pub record Onward (w : What) (s : List ℕ) (at : ℕ) (seen : Bool) (p : Spot) : Type 0 where

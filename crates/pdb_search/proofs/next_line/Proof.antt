@@ -3,10 +3,10 @@ use mathlib.Core.Path.{_≡_, refl}
 use lib.ListN.{length}
 use native.Mathlib.Omega.{arith}
 use borrow.Author.Needs.{needs}
-use Rattle.pdb_notes.specs.Notes.{linesFrom}
-use Rattle.pdb_notes.proofs.Laws.{search-over, search-stop, search-here, search-on}
-use Rattle.pdb_notes.proofs.lines.next_line.Statement.{statement}
-use Rattle.pdb_notes.proofs.lines.next_line.Tie as tie
+use Rattle.pdb_search.specs.Kinds.{linesFrom}
+use Rattle.pdb_search.proofs.Laws.{search-over, search-stop, search-here, search-on}
+use Rattle.pdb_search.proofs.next_line.Statement.{statement}
+use Rattle.pdb_search.proofs.next_line.Tie as tie
 
 abbrev Inv-loop : tie.InvT-loop
 Inv-loop s at seen w from₀ model₀ from model = (at ≤ from) × (from ≤ length s) × (linesFrom w s at seen ≡ linesFrom w s from model)

@@ -11,12 +11,12 @@ use Rattle.pdb_lines.specs.Post.{Cut}
 use Rattle.pdb_records.specs.Records.{kindOf}
 use Rattle.pdb_records.specs.declared.Kind.{Kind}
 use Rattle.pdb_reading.specs.Reading.{stops, saw}
-use Rattle.pdb_notes.specs.Notes.{passes, everywhere, taken, chosen, linesFrom, linesOf}
-use Rattle.pdb_notes.specs.Post.{Onward, Found}
-use Rattle.pdb_notes.specs.declared.lines.What.{What}
-use Rattle.pdb_notes.specs.declared.lines.Spot.{Spot}
-use Rattle.pdb_notes.specs.declared.lines.Next.{Next}
-use Rattle.pdb_notes.specs.declared.lines.Next.the-variants.{Done, Got}
+use Rattle.pdb_search.specs.Kinds.{passes, everywhere, taken, chosen, linesFrom, linesOf}
+use Rattle.pdb_search.specs.Post.{Onward, Found}
+use Rattle.pdb_search.specs.declared.What.{What}
+use Rattle.pdb_search.specs.declared.Spot.{Spot}
+use Rattle.pdb_search.specs.declared.Next.{Next}
+use Rattle.pdb_search.specs.declared.Next.the-variants.{Done, Got}
 
 -- no line is left, a line ends the search, or the search goes on behind it; b: the whole file is searched
 none-by : (t : List ℕ → Bool) (seen b : Bool) → chosen t (cond b [] (taken seen [])) ≡ []

@@ -1,6 +1,6 @@
 use borrow.Author.Needs.{needs}
-use Rattle.pdb_notes.proofs.lines.is_over.Statement.{statement}
-use Rattle.pdb_notes.proofs.lines.is_over.Tie as tie
+use Rattle.pdb_search.proofs.is_over.Statement.{statement}
+use Rattle.pdb_search.proofs.is_over.Tie as tie
 
 returns-3 : tie.Need-returns-3
 returns-3 c = rw (c .before .enum-told3 .given .1) (c .stops-at .ensures)
@@ -26,7 +26,9 @@ is-over-spec =
     (λ c. search needs)
     (λ c. search needs)
     (λ c. search needs)
+    (λ c. search needs)
     returns-3
     returns-4
     returns-5
+    (λ c. search needs)
     (λ c. search needs))

@@ -2,12 +2,12 @@ use borrow.Author.Tests.{not-true, not-false}
 use mathlib.Core.Path.{sym, _∙_}
 use Rattle.pdb_records.specs.Records.{ofKind}
 use borrow.Author.Needs.{needs}
-use Rattle.pdb_notes.proofs.lines.is_alpha_line.Statement.{statement}
-use Rattle.pdb_notes.proofs.lines.is_alpha_line.Tie as tie
-use Rattle.pdb_notes.proofs.lines.is_alpha_line.Reads as reads
-use Rattle.pdb_notes.proofs.lines.is_alpha_line.Lts as lts
+use Rattle.pdb_search.proofs.is_alpha_line.Statement.{statement}
+use Rattle.pdb_search.proofs.is_alpha_line.Tie as tie
+use Rattle.pdb_search.proofs.is_alpha_line.Reads as reads
+use Rattle.pdb_search.proofs.is_alpha_line.Lts as lts
 use Rattle.pdb_lines.proofs.is_at.Reads as is-at-reads
-use Rattle.pdb_notes.proofs.lines.is_alpha.Reads as is-alpha-reads
+use Rattle.pdb_search.proofs.is_alpha.Reads as is-alpha-reads
 use Rattle.pdb_records.proofs.record_of.Reads as record-of-reads
 
 -- src/lines.rt:72:9

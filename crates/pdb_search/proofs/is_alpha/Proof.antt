@@ -1,6 +1,6 @@
 use borrow.Author.Needs.{needs}
-use Rattle.pdb_notes.proofs.lines.is_alpha.Statement.{statement}
-use Rattle.pdb_notes.proofs.lines.is_alpha.Tie as tie
+use Rattle.pdb_search.proofs.is_alpha.Statement.{statement}
+use Rattle.pdb_search.proofs.is_alpha.Tie as tie
 
 returns : tie.Need-returns
 returns c = simp (c .before .before .r .given .1)

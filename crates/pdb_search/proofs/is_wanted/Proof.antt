@@ -1,7 +1,7 @@
-use Rattle.pdb_notes.specs.Notes.{passes}
+use Rattle.pdb_search.specs.Kinds.{passes}
 use borrow.Author.Needs.{needs}
-use Rattle.pdb_notes.proofs.lines.is_wanted.Statement.{statement}
-use Rattle.pdb_notes.proofs.lines.is_wanted.Tie as tie
+use Rattle.pdb_search.proofs.is_wanted.Statement.{statement}
+use Rattle.pdb_search.proofs.is_wanted.Tie as tie
 
 returns : tie.Need-returns
 unfolding passes
@@ -27,6 +27,10 @@ returns-6 : tie.Need-returns-6
 unfolding passes
 returns-6 c = rw (c .before .before .enum-told6 .given .1) (c .is-at2 .ensures)
 
+returns-7 : tie.Need-returns-7
+unfolding passes
+returns-7 c = rw (c .before .before .enum-told7 .given .1) (c .is-at3 .ensures)
+
 pub is-wanted-spec : {M : Type 1} → statement M
 is-wanted-spec =
     tie.close
@@ -47,9 +51,13 @@ is-wanted-spec =
     (λ c. search needs)
     (λ c. search needs)
     (λ c κs. search needs)
+    (λ c. search needs)
+    (λ c. search needs)
+    (λ c κs. search needs)
     returns
     returns-2
     returns-3
     returns-4
     returns-5
-    returns-6)
+    returns-6
+    returns-7)

@@ -1,12 +1,12 @@
 use borrow.Author.Tests.{not-true, not-false}
 use mathlib.Core.Path.{sym, _∙_}
 use borrow.Author.Needs.{needs}
-use Rattle.pdb_notes.proofs.lines.is_misspelt.Statement.{statement}
-use Rattle.pdb_notes.proofs.lines.is_misspelt.Tie as tie
-use Rattle.pdb_notes.proofs.lines.is_misspelt.Reads as reads
-use Rattle.pdb_notes.proofs.lines.is_misspelt.Lts as lts
-use Rattle.pdb_notes.proofs.lines.has_letters.Reads as has-letters-reads
-use Rattle.pdb_notes.proofs.lines.is_other.Reads as is-other-reads
+use Rattle.pdb_search.proofs.is_misspelt.Statement.{statement}
+use Rattle.pdb_search.proofs.is_misspelt.Tie as tie
+use Rattle.pdb_search.proofs.is_misspelt.Reads as reads
+use Rattle.pdb_search.proofs.is_misspelt.Lts as lts
+use Rattle.pdb_search.proofs.has_letters.Reads as has-letters-reads
+use Rattle.pdb_search.proofs.is_other.Reads as is-other-reads
 use Rattle.pdb_records.proofs.kind_of.Reads as kind-of-reads
 
 -- src/lines.rt:118:9

@@ -1,7 +1,7 @@
 use mathlib.Core.Path.{sym, _∙_}
 use borrow.Author.Needs.{needs}
-use Rattle.pdb_notes.proofs.lines.has_letters.Statement.{statement}
-use Rattle.pdb_notes.proofs.lines.has_letters.Tie as tie
+use Rattle.pdb_search.proofs.has_letters.Statement.{statement}
+use Rattle.pdb_search.proofs.has_letters.Tie as tie
 
 returns : tie.Need-returns
 returns c = simp (sym (c .before .is-at .ensures) ∙ c .if1 .taken)
