@@ -22,13 +22,8 @@ link_c() { # PROGRAM ARCHIVE [WORD ...]: examples/PROGRAM.c with the archive, to
 }
 
 compile() { # PROGRAM LIBRARY [WORD ...]: examples/PROGRAM.c with a proved library, which is built where it is not there
-    local archive=target/staticlib/lib$2.a
-    if ! fresh "$archive"; then
-        echo "building the static library $2, which proves what it stands on; this takes some minutes the first time" >&2
-        rt staticlib "$2" >&2
-        touch "$archive"
-    fi
-    link_c "$1" "$archive" "${@:3}"
+    build_library "$2"
+    link_c "$1" "target/staticlib/lib$2.a" "${@:3}"
 }
 
 emulated=

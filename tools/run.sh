@@ -37,19 +37,30 @@ show_progress() { # HOW-MANY LOG WORD ...
     echo "built in $((SECONDS - began)) s" >&2
 }
 
-# Builds under a lock, so that two programs started at once build once.
-build() { # NAME
-    fresh "$root/target/bin/$1" && return
+# Makes a file of a crate by `rt WORD CRATE`, under a lock, so that what is started at once is built once.
+make_once() { # FILE WHAT WORD CRATE
+    fresh "$1" && return
     mkdir -p "$root/target/log"
     exec 9>"$root/target/lock"
-    flock 9
-    if ! fresh "$root/target/bin/$1"; then
+    if ! flock -n 9; then
+        echo "${0##*/}: something else is being built; waiting for it" >&2
+        flock 9
+    fi
+    if ! fresh "$1"; then
         compare_kit
-        echo "${0##*/}: building $1, which proves the crates that it stands on: some ten minutes the first time, some seconds later" >&2
-        show_progress "$(below "$1")" "$root/target/log/build-$1.out" check "$1"
-        touch "$root/target/bin/$1"
+        echo "${0##*/}: building $2, which proves the crates that it stands on: minutes the first time, seconds later" >&2
+        show_progress "$(below "$4")" "$root/target/log/build-$4.out" "$3" "$4"
+        touch "$1"
     fi
     exec 9>&-
+}
+
+build() { # NAME
+    make_once "$root/target/bin/$1" "the program $1" check "$1"
+}
+
+build_library() { # NAME: the static library for C
+    make_once "$root/target/staticlib/lib$1.a" "the static library $1" staticlib "$1"
 }
 
 command_of() { # NAME: leaves the words that run it in the array `words`, one to a place, since a path may hold blanks

@@ -56,7 +56,7 @@ EdgesPaired l = (x y : ℕ) → 0 < occurs x y l → (occurs x y l ≡ 1) × (oc
 abbrev pub VerticesUsed : ℕ → ℕ → List ℕ → Type 0
 VerticesUsed o v l = (u : ℕ) → o ≤ u → u < v → (i : ℕ) × (i < length l) × (getD l i 0 ≡ u)
 
--- a list of t triangles over the vertices from o up to v 'is sound exactly when' the four rules hold
+-- a list of t triangles over the vertices from o up to v is sound exactly when the four rules of 02 §11 hold
 pub record Sound (o v t : ℕ) (l : List ℕ) : Type 0 where
   pub size : length l ≡ 3 * t
   pub within : CornersIn o v l

@@ -27,7 +27,7 @@ firstOf u = getD (u .residues) 0 0
 abbrev pub sizeOf : Tube → ℕ
 sizeOf u = length (u .residues)
 
--- 'A tube of n residues has 64n-54 vertices and 128n-112 triangles'
+-- demand 3: 'A tube of n residues has 64n-54 vertices and 128n-112 triangles'
 abbrev pub vertexCount : ℕ → ℕ
 vertexCount n = 64 * n - 54
 

@@ -59,7 +59,7 @@ triangleName = 32 ∷ 116 ∷ 114 ∷ 105 ∷ 97 ∷ 110 ∷ 103 ∷ 108 ∷ 101
 abbrev pub refusedName : List ℕ
 refusedName = 114 ∷ 101 ∷ 102 ∷ 117 ∷ 115 ∷ 101 ∷ 100 ∷ 32 ∷ []
 
--- 'every line ends in LF'
+-- every line ends in LF
 abbrev pub lf : List ℕ
 lf = 10 ∷ []
 
