@@ -23,14 +23,17 @@ below() { # NAME
         END { visit(name); print count }' "$root/crates.txt"
 }
 
-# Runs `rt WORD..` with a line for each crate that is proved: which of how many, and how long. The prover's own lines go to a log.
+# Runs `rt WORD ..` with a line for each crate that is proved: which of how many, and how long. The prover's own lines go to a log.
 show_progress() { # HOW-MANY LOG WORD ...
-    local of=$1 log=$2 began=$SECONDS status
+    local of=$1 log=$2 began=$SECONDS n=0 status line
     shift 2
     set +e
-    (cd "$root" && rt "$@") 2>&1 | tee "$log" | awk -v of="$of" '
-        /^rt: .* (proved|unchanged)/ { if (!($2 in seen)) { seen[$2] = 1; n++ } line = $0; sub(/^rt: /, "", line); printf "[%2d/%s] %s\n", n, of, line; fflush(); next }
-        /NOT PROVED|FAILED|error/ { print substr($0, 1, 300); fflush() }' >&2
+    (cd "$root" && rt "$@") 2>&1 | tee "$log" | while IFS= read -r line; do
+        case $line in
+            'rt: '*' proved ('*) n=$((n + 1)); printf '[%2d/%s] %s\n' "$n" "$of" "${line#rt: }" ;;
+            'rt: '*'NOT PROVED'* | 'rt: '*FAILED*) printf '%s\n' "$line" ;;
+        esac
+    done >&2
     status=${PIPESTATUS[0]}
     set -e
     [ "$status" = 0 ] || { echo "${0##*/}: this could not be built: $log has what the prover said" >&2; exit 1; }
