@@ -145,6 +145,12 @@ a serial, a sequence number or a coordinate in the line of that number is not ri
 $digits
 the file looks like mmCIF, which is not read yet: take the PDB file of the structure
 TEXT
+# as many residues as a job holds, and one more in HETATM lines
+{ structure 16384 16384 | grep -v 'HELIX\|END'; atom HETATM 1 ' CA' MSE D 1 0; echo END; } >"$at/full.pdb"
+tells 0 ./ribbon-job "$at/full.pdb" <<'TEXT'
+note: read: chains 3 residues 16384 segments 0 atoms 16384 C-alphas 16384
+note: residues whose C-alphas stand in HETATM lines alone are left out; there are too many residues to name them
+TEXT
 # a file as long as there is room for, on the stack that a system gives, with residues left out
 { for i in {1..300}; do atom HETATM "$i" ' CA' MSE B "$i" "$i"; done; structure 60000 5000 | sed 's/  $//' | tail -n +10; yes REMARK || true; } | head -c 5000000 >"$at/room.pdb"
 tells 0 ./ribbon-job "$at/room.pdb" <<'TEXT'

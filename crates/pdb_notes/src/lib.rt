@@ -137,9 +137,22 @@ fn tell_misspelt(s: &[u8]) {
     say(b"\n");
 }
 
+// Those that could not be told by name, since the index of residues is full.
+fn tell_unnamed(s: &[u8], modelled: usize) {
+    if modelled < 16384 {
+        return;
+    }
+    if 0 < count_lines(s, What::Heteros) {
+        say(
+            b"note: residues whose C-alphas stand in HETATM lines alone are left out; there are too many residues to name them\n",
+        );
+    }
+}
+
 fn tell_left_out(s: &[u8]) {
     let r = count_residues(s);
     if r.resolved <= r.modelled {
+        tell_unnamed(s, r.modelled);
         return;
     }
     say_number(b" (residues: ", r.resolved - r.modelled);
