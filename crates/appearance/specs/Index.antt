@@ -1,7 +1,7 @@
 -- An index that finds a key among many without a search of them all. Keys fall into 16,384 slots; the index holds, counted from 1, the last key
 -- of each slot and, for each key, the one before it of its own slot.
 use Prim.Native.Nat.{ℕ, _+_, _*_, _/_, _%_, _<_, _≤_}
-use mathlib.Core.List.{List}
+use mathlib.Core.List.{List, _++_}
 use mathlib.Core.Bool.{Bool}
 use mathlib.Core.Path.{_≡_}
 use lib.Dec.{eqb}
@@ -38,3 +38,7 @@ pub record Keyed (keys : List ℕ) (n : ℕ) (l : List ℕ) : Type 0 where
 pub record Holding (keys links : List ℕ) (n : ℕ) (l : List ℕ) : Type 0 where
   pub index : Index keys links n
   pub keyed : n < 16384 → Keyed keys n l
+
+-- what was held before is held after, with the keys of xs behind it
+abbrev pub Gains : List ℕ → List ℕ → ℕ → List ℕ → List ℕ → ℕ → List ℕ → Type 0
+Gains keys links n keys′ links′ m xs = (l : List ℕ) → Holding keys links n l → Holding keys′ links′ m (l ++ xs)

@@ -1,11 +1,11 @@
 // Numbers by first appearance: what they are is mathematics, in specs/Order and proofs/. The code is an index over up to 16,384 keys
 // that finds a key's number.
 ghost use mathlib.Core.Path.{_≡_};
-ghost use mathlib.Core.List.{List, [], _∷_, _++_};
-ghost use Prim.Native.Nat.{ℕ, _+_, _<_, _≤_};
+ghost use mathlib.Core.List.{[], _∷_};
+ghost use Prim.Native.Nat.{_+_, _<_, _≤_};
 ghost use lib.ListN.{set};
 ghost use Rattle.job.specs.Search.{last};
-ghost use Rattle.appearance.specs.Index.{slot, isKey, Index, Holding};
+ghost use Rattle.appearance.specs.Index.{slot, isKey, Index, Gains};
 
 fn slot_of(key: u64) -> usize
     ensures { λ r. ⌜ (r ≡ slot key) × (r < 16384) ⌝ }
@@ -44,7 +44,8 @@ pub fn enter(keys: &mut [u64; 16384], links: &mut [usize; 32768], n: usize, key:
 // The number of keys with this one, while there is room.
 pub fn add(keys: &mut [u64; 16384], links: &mut [usize; 32768], n: usize, key: u64) -> usize
     requires { ⌜ Index (now keys) (now links) n ⌝ }
-    ensures { λ r. ⌜ ((l : List ℕ) → Holding (now (keys .entry)) (now (links .entry)) n l → Holding (now (keys .exit)) (now (links .exit)) r (l ++ (key ∷ []))) × (Index (now (keys .exit)) (now (links .exit)) r) × (n ≤ r) × (r ≤ n + 1) ⌝ }
+    ensures { λ r. ⌜ Gains (now (keys .entry)) (now (links .entry)) n (now (keys .exit)) (now (links .exit)) r (key ∷ []) ⌝ }
+    ensures { λ r. ⌜ (Index (now (keys .exit)) (now (links .exit)) r) × (n ≤ r) × (r ≤ n + 1) ⌝ }
 {
     if n == 16384 {
         return n;

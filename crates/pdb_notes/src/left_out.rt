@@ -6,9 +6,8 @@ use pdb_search::What;
 use pdb_search::name_in;
 use pdb_search::next_line;
 ghost use mathlib.Core.Path.{_≡_};
-ghost use mathlib.Core.List.{List, _++_};
-ghost use Prim.Native.Nat.{ℕ, _+_, _<_, _≤_};
-ghost use Rattle.appearance.specs.Index.{Index, Holding};
+ghost use Prim.Native.Nat.{_<_, _≤_};
+ghost use Rattle.appearance.specs.Index.{Index, Gains};
 ghost use Rattle.pdb_search.specs.Kinds.{linesOf};
 ghost use Rattle.pdb_notes.specs.Notes.{namesOf, modelled, resolved};
 
@@ -57,7 +56,8 @@ fn gather(
     tell: bool,
 ) -> usize
     requires { ⌜ Index (now keys) (now links) n ⌝ }
-    ensures { λ r. ⌜ ((l : List ℕ) → Holding (now (keys .entry)) (now (links .entry)) n l → Holding (now (keys .exit)) (now (links .exit)) r (l ++ namesOf (linesOf w (now (s .entry))))) × (Index (now (keys .exit)) (now (links .exit)) r) × (n ≤ r) ⌝ }
+    ensures { λ r. ⌜ Gains (now (keys .entry)) (now (links .entry)) n (now (keys .exit)) (now (links .exit)) r (namesOf (linesOf w (now (s .entry)))) ⌝ }
+    ensures { λ r. ⌜ (Index (now (keys .exit)) (now (links .exit)) r) × (n ≤ r) ⌝ }
 {
     let mut at = 0;
     let mut seen = false;
@@ -79,7 +79,8 @@ fn gather(
 
 // Both counts; the residues that are left out are told by name.
 pub fn count_residues(s: &[u8]) -> Residues
-    ensures { λ r. ⌜ (r .resolved < 16384 → (r .modelled ≡ modelled (now (s .entry))) × (r .resolved ≡ resolved (now (s .entry)))) × (r .modelled ≤ r .resolved) ⌝ }
+    ensures { λ r. ⌜ (r .resolved < 16384 → (r .modelled ≡ modelled (now (s .entry))) × (r .resolved ≡ resolved (now (s .entry)))) ⌝ }
+    ensures { λ r. ⌜ r .modelled ≤ r .resolved ⌝ }
 {
     let mut keys = [0u64; 16384];
     let mut links = [0usize; 32768];

@@ -2,21 +2,33 @@
 use Prim.Native.Nat.{ℕ, suc, _+_, _-_, _≤_}
 use mathlib.Core.Bool.{Bool, true, false, cond}
 use mathlib.Core.Path.{_≡_, refl, sym, ap, _∙_, subst}
-use mathlib.Core.List.{List, [], _∷_}
+use mathlib.Core.List.{List, [], _∷_, map}
 use native.Mathlib.Omega.{arith}
 use native.Mathlib.Nat.{zero-add}
 use lib.ListN.{length, take, drop, drop-of-length-le}
 use Rattle.pdb_lines.specs.Lines.{lines}
 use Rattle.pdb_lines.specs.Post.{Cut}
-use Rattle.pdb_records.specs.Records.{kindOf}
+use Rattle.pdb_records.specs.Records.{kindOf, ofKind}
+use Rattle.pdb_records.specs.declared.Record.{Record}
 use Rattle.pdb_records.specs.declared.Kind.{Kind}
-use Rattle.pdb_reading.specs.Reading.{stops, saw}
+use Rattle.pdb_reading.specs.Reading.{stops, saw, reading}
 use Rattle.pdb_search.specs.Kinds.{passes, everywhere, taken, chosen, linesFrom, linesOf}
 use Rattle.pdb_search.specs.Post.{Onward, Found}
 use Rattle.pdb_search.specs.declared.What.{What}
 use Rattle.pdb_search.specs.declared.Spot.{Spot}
 use Rattle.pdb_search.specs.declared.Next.{Next}
 use Rattle.pdb_search.specs.declared.Next.the-variants.{Done, Got}
+
+-- the lines that are searched are those that the reader reads: what they say, line by line, are its records
+pub taken-read : (seen : Bool) (ls : List (List ℕ)) → reading seen ls ≡ map (λ (l : List ℕ). ofKind (kindOf l) l) (taken seen ls)
+unfolding reading taken
+taken-read seen [] = refl
+taken-read seen (l ∷ ls) = go (stops seen (kindOf l)) (taken-read (saw seen (kindOf l)) ls)
+  where
+    go : (b : Bool) → reading (saw seen (kindOf l)) ls ≡ map (λ (k : List ℕ). ofKind (kindOf k) k) (taken (saw seen (kindOf l)) ls)
+        → cond b [] (ofKind (kindOf l) l ∷ reading (saw seen (kindOf l)) ls) ≡ map (λ (k : List ℕ). ofKind (kindOf k) k) (cond b [] (l ∷ taken (saw seen (kindOf l)) ls))
+    go true e = refl
+    go false e = ap (λ (rs : List Record). ofKind (kindOf l) l ∷ rs) e
 
 -- no line is left, a line ends the search, or the search goes on behind it; b: the whole file is searched
 none-by : (t : List ℕ → Bool) (seen b : Bool) → chosen t (cond b [] (taken seen [])) ≡ []

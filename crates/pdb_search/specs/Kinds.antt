@@ -93,7 +93,7 @@ everywhere Misspelt = false
 everywhere Items = true
 everywhere Atoms = true
 
--- the lines that are read: those 'until the first ENDMDL or a second MODEL'; seen: a MODEL line came before
+-- the lines that are read: those 'until the first ENDMDL or a second MODEL'; seen: a MODEL line came before. What they say are the reader's records (`taken-read`)
 unfoldable pub taken : Bool → List (List ℕ) → List (List ℕ)
 taken seen [] = []
 taken seen (l ∷ ls) = cond (stops seen (kindOf l)) [] (l ∷ taken (saw seen (kindOf l)) ls)

@@ -8,29 +8,23 @@ use Rattle.appearance.proofs.add.Lts as lts
 use Rattle.appearance.proofs.enter.Reads as enter-reads
 use Rattle.appearance.proofs.find.Reads as find-reads
 
--- src/lib.rt:50:9
 returns : tie.Need-returns
-returns c = (holding-full _ _ _ _ (c .if1 .taken), c .before .pre, omega arith, omega arith)
+returns c = (holding-full _ _ _ _ (c .if1 .taken), (c .before .pre, omega arith, omega arith))
 
--- src/lib.rt:52:12
 find-requires : tie.Need-find-requires
 find-requires c κs = search needs
 
--- src/lib.rt:53:9
 returns-2 : tie.Need-returns-2
-returns-2 c = (holding-seen _ _ _ _ _ (c .before .find .ensures .0) (c .if2 .taken), c .before .before .before .before .before .pre, omega arith, omega arith)
+returns-2 c = (holding-seen _ _ _ _ _ (c .before .find .ensures .0) (c .if2 .taken), (c .before .before .before .before .before .pre, omega arith, omega arith))
 
--- src/lib.rt:55:5
 enter-requires : tie.Need-enter-requires
 enter-requires c κs = search needs
 
--- src/lib.rt:56:5
 add-result : tie.Need-add-result
 add-result c = search needs
 
--- src/lib.rt:45:1
 returns-3 : tie.Need-returns-3
-returns-3 c = (holding-new _ _ _ _ _ (c .before .before .before .before .find .ensures .0) (c .before .before .before .if2 .left) _ _ (c .enter .ensures .0) (c .enter .ensures .1), c .enter .ensures .1, omega arith, omega arith)
+returns-3 c = (holding-new _ _ _ _ _ (c .before .before .before .before .find .ensures .0) (c .before .before .before .if2 .left) _ _ (c .enter .ensures .0) (c .enter .ensures .1), (c .enter .ensures .1, omega arith, omega arith))
 
 pub add-spec : {M : Type 1} → statement M
 add-spec = tie.close (tie.spec returns find-requires returns-2 enter-requires add-result returns-3)

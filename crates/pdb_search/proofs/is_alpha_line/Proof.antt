@@ -10,23 +10,18 @@ use Rattle.pdb_lines.proofs.is_at.Reads as is-at-reads
 use Rattle.pdb_search.proofs.is_alpha.Reads as is-alpha-reads
 use Rattle.pdb_records.proofs.record_of.Reads as record-of-reads
 
--- src/lines.rt:72:9
 is-at-requires : tie.Need-is-at-requires
 is-at-requires c κs = search needs
 
--- src/lines.rt:73:9
 returns : tie.Need-returns
 returns c = simp (sym (c .before .is-at .ensures) ∙ not-true _ (c .if1 .taken))
 
--- src/lines.rt:75:14
 record-of-requires : tie.Need-record-of-requires
 record-of-requires c κs = search needs
 
--- src/lines.rt:75:5
 is-alpha-requires : tie.Need-is-alpha-requires
 is-alpha-requires c κs = search needs
 
--- src/lines.rt:69:1
 returns-2 : tie.Need-returns-2
 unfolding ofKind
 returns-2 c = simp (sym (c .before .before .before .is-at .ensures) ∙ not-false _ (c .before .before .if1 .left), c .is-alpha .ensures, c .before .record-of .ensures)

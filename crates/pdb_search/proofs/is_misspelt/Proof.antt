@@ -9,23 +9,18 @@ use Rattle.pdb_search.proofs.has_letters.Reads as has-letters-reads
 use Rattle.pdb_search.proofs.is_other.Reads as is-other-reads
 use Rattle.pdb_records.proofs.kind_of.Reads as kind-of-reads
 
--- src/lines.rt:118:9
 has-letters-requires : tie.Need-has-letters-requires
 has-letters-requires c κs = search needs
 
--- src/lines.rt:119:9
 returns : tie.Need-returns
 returns c = simp (sym (c .before .has-letters .ensures) ∙ not-true _ (c .if1 .taken))
 
--- src/lines.rt:121:14
 kind-of-requires : tie.Need-kind-of-requires
 kind-of-requires c κs = search needs
 
--- src/lines.rt:121:5
 is-other-requires : tie.Need-is-other-requires
 is-other-requires c κs = search needs
 
--- src/lines.rt:115:1
 returns-2 : tie.Need-returns-2
 returns-2 c = simp (sym (c .before .before .before .has-letters .ensures) ∙ not-false _ (c .before .before .if1 .left), c .is-other .ensures, c .before .kind-of .ensures)
 

@@ -8,15 +8,12 @@ use Rattle.pdb_search.proofs.name_in.Lts as lts
 use Rattle.pdb_search.proofs.name_of.Reads as name-of-reads
 use Rattle.pdb_records.proofs.record_of.Reads as record-of-reads
 
--- src/lines.rt:65:13
 record-of-requires : tie.Need-record-of-requires
 record-of-requires c κs = search needs
 
--- src/lines.rt:65:5
 name-of-requires : tie.Need-name-of-requires
 name-of-requires c κs = search needs
 
--- src/lines.rt:62:1
 returns : tie.Need-returns
 unfolding ofKind
 returns c = rw (c .name-of .ensures, c .before .record-of .ensures)

@@ -10,17 +10,14 @@ use Rattle.pdb_notes.proofs.left_out.count_residues.Reads as reads
 use Rattle.pdb_notes.proofs.left_out.count_residues.Lts as lts
 use Rattle.pdb_notes.proofs.left_out.gather.Reads as gather-reads
 
--- src/left_out.rt:85:9
 gather-requires : tie.Need-gather-requires
 gather-requires c κs = empty-index _ (length-replicate {A = ℕ} 16384 0)
 
--- src/left_out.rt:86:9
 gather-requires-2 : tie.Need-gather-requires-2
-gather-requires-2 c κs = c .before .before .gather .ensures .1
+gather-requires-2 c κs = c .before .before .gather .ensures .1 .0
 
--- src/left_out.rt:80:1
 returns : tie.Need-returns
-returns c = (λ h. both-counted _ _ _ _ _ _ _ _ _ _ (holding-none _ (length-replicate {A = ℕ} 16384 0)) (c .before .before .before .gather .ensures .0) (c .gather2 .ensures .0) (c .gather2 .ensures .2) h, c .gather2 .ensures .2)
+returns c = (λ h. both-counted _ _ _ _ _ _ _ _ _ _ (holding-none _ (length-replicate {A = ℕ} 16384 0)) (c .before .before .before .gather .ensures .0) (c .gather2 .ensures .0) (c .gather2 .ensures .1 .1) h, c .gather2 .ensures .1 .1)
 
 pub count-residues-spec : {M : Type 1} → statement M
 count-residues-spec = tie.close (tie.spec gather-requires gather-requires-2 returns)
