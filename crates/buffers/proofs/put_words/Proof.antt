@@ -4,46 +4,13 @@ use Rattle.buffers.proofs.Puts.{put3}
 use borrow.Author.Needs.{needs}
 use Rattle.buffers.proofs.put_words.Statement.{statement}
 use Rattle.buffers.proofs.put_words.Tie as tie
-use Rattle.buffers.proofs.put_words.Reads as reads
-use Rattle.buffers.proofs.put_words.Lts as lts
 
--- src/lib.rt:14:5
-mul-out : tie.Need-mul-out
-mul-out c = search needs
-
--- src/lib.rt:14:5
-slice-write-out : tie.Need-slice-write-out
-slice-write-out c = search needs
-
--- src/lib.rt:15:9
-add-out : tie.Need-add-out
-add-out c = search needs
-
--- src/lib.rt:15:5
-mul-out-2 : tie.Need-mul-out-2
-mul-out-2 c = search needs
-
--- src/lib.rt:15:5
 slice-write-out-2 : tie.Need-slice-write-out-2
 slice-write-out-2 c = simp length-set (omega arith)
 
--- src/lib.rt:16:9
-add-out-2 : tie.Need-add-out-2
-add-out-2 c = search needs
-
--- src/lib.rt:16:5
-mul-out-3 : tie.Need-mul-out-3
-mul-out-3 c = search needs
-
--- src/lib.rt:16:5
 slice-write-out-3 : tie.Need-slice-write-out-3
 slice-write-out-3 c = simp length-set (omega arith)
 
--- src/lib.rt:10:1
-same-length : tie.Need-same-length
-same-length c = search needs
-
--- src/lib.rt:10:1
 returns : tie.Need-returns
 returns c = put3 _ _ _ _ _
 
@@ -51,13 +18,13 @@ pub put-words-spec : {M : Type 1} → statement M
 put-words-spec =
     tie.close
     (tie.spec
-    mul-out
-    slice-write-out
-    add-out
-    mul-out-2
+    (λ c. search needs)
+    (λ c. search needs)
+    (λ c. search needs)
+    (λ c. search needs)
     slice-write-out-2
-    add-out-2
-    mul-out-3
+    (λ c. search needs)
+    (λ c. search needs)
     slice-write-out-3
-    same-length
+    (λ c. search needs)
     returns)

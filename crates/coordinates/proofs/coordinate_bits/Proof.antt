@@ -7,9 +7,6 @@ use Rattle.coordinates.proofs.coordinate_bits.Tie as tie
 returns : tie.Need-returns
 returns c = zero-bits _ _ (c .if1 .taken)
 
-int-to-float-q : tie.Need-int-to-float-q
-int-to-float-q c = search needs
-
 float-to-bits-result : tie.Need-float-to-bits-result
 float-to-bits-result c = not-nan-neg _ _ (c .before .before .before .fits .size .fits) refl
 
@@ -27,7 +24,7 @@ coordinate-bits-spec =
     tie.close
     (tie.spec
     returns
-    int-to-float-q
+    (λ c. search needs)
     float-to-bits-result
     returns-2
     float-to-bits-result-2

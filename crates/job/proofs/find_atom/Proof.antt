@@ -1,21 +1,13 @@
-use Prim.Native.Nat.{ℕ, _≤_, _<_, _-_, _+_, _*_}
-use mathlib.Core.Bool.{Bool, true, false, not}
-use mathlib.Core.Path.{_≡_, refl, sym, ap, _∙_}
-use lib.ListN.{getD, length}
-use lib.Dec.{ltb}
+use Prim.Native.Nat.{ℕ, _≤_, _<_, _-_}
+use mathlib.Core.Bool.{false}
+use mathlib.Core.Path.{_≡_, sym, _∙_}
 use native.Mathlib.Omega.{arith}
 use borrow.Author.Needs.{needs}
 use borrow.Author.Count.{below-none, below-more}
-use borrow.Author.Tests.{lt-ltb, le-ltb, eq-eqb, ne-eqb, le-leb, lt-leb}
-use Rattle.job.specs.Check.{badVisibility, badKind, badAtom, badCoordinate, sizes}
+use Rattle.job.specs.Check.{badAtom}
 use Rattle.job.proofs.Laws.{first-none, first-at}
-use Rattle.job.specs.Coordinate.{within}
-use Rattle.job.proofs.Laws.{or-last}
 use Rattle.job.proofs.find_atom.Statement.{statement}
 use Rattle.job.proofs.find_atom.Tie as tie
-use Rattle.job.proofs.find_atom.Reads as reads
-use Rattle.job.proofs.find_atom.Lts as lts
-use Rattle.job.proofs.is_bad_atom.Reads as is-bad-atom-reads
 
 abbrev Inv-loop : tie.InvT-loop
 Inv-loop b h n i₀ i = (i ≤ n) × ((k : ℕ) → k < i → badAtom b h k ≡ false)
@@ -23,39 +15,15 @@ Inv-loop b h n i₀ i = (i ≤ n) × ((k : ℕ) → k < i → badAtom b h k ≡ 
 abbrev μ-loop : tie.MeasureT-loop
 μ-loop b h n i₀ i = n - i
 
--- src/lib.rt:171:13
-cast-n : tie.Need-cast-n Inv-loop μ-loop
-cast-n c = search needs
-
--- src/lib.rt:173:5
 loop-holds : tie.Need-loop-holds Inv-loop μ-loop
 loop-holds c = (search needs, below-none _)
 
--- src/lib.rt:174:12
-is-bad-atom-requires : tie.Need-is-bad-atom-requires Inv-loop μ-loop
-is-bad-atom-requires c κs = search needs
-
--- src/lib.rt:175:20
-add-result : tie.Need-add-result Inv-loop μ-loop
-add-result c = search needs
-
--- src/lib.rt:175:13
 returns : tie.Need-returns Inv-loop μ-loop
 returns c = sym (first-at _ _ _ (search needs) (c .before .before .before .loop .inv .1) (sym (c .before .is-bad-atom .ensures) ∙ c .if1 .taken))
 
--- src/lib.rt:177:9
-add-i : tie.Need-add-i Inv-loop μ-loop
-add-i c = search needs
-
--- src/lib.rt:173:5
-loop-less : tie.Need-loop-less Inv-loop μ-loop
-loop-less c = search needs
-
--- src/lib.rt:173:5
 loop-again : tie.Need-loop-again Inv-loop μ-loop
 loop-again c = (search needs, below-more _ _ (c .before .before .before .loop .inv .1) (sym (c .before .is-bad-atom .ensures) ∙ c .if1 .left))
 
--- src/lib.rt:167:1
 returns-2 : tie.Need-returns-2 Inv-loop μ-loop
 returns-2 c = sym (first-none _ _ (λ k l. c .before .loop .inv .1 k (omega arith)))
 
@@ -65,12 +33,12 @@ find-atom-spec =
     (tie.spec
     Inv-loop
     μ-loop
-    cast-n
+    (λ c. search needs)
     loop-holds
-    is-bad-atom-requires
-    add-result
+    (λ c κs. search needs)
+    (λ c. search needs)
     returns
-    add-i
-    loop-less
+    (λ c. search needs)
+    (λ c. search needs)
     loop-again
     returns-2)

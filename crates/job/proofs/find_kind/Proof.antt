@@ -1,21 +1,16 @@
-use Prim.Native.Nat.{ℕ, _≤_, _<_, _-_, _+_, _*_}
-use mathlib.Core.Bool.{Bool, true, false, not}
-use mathlib.Core.Path.{_≡_, refl, sym, ap, _∙_}
-use lib.ListN.{getD, length}
+use Prim.Native.Nat.{ℕ, _≤_, _<_, _-_}
+use mathlib.Core.Bool.{false}
+use mathlib.Core.Path.{_≡_, sym, ap, _∙_}
+use lib.ListN.{getD}
 use lib.Dec.{ltb}
 use native.Mathlib.Omega.{arith}
 use borrow.Author.Needs.{needs}
 use borrow.Author.Count.{below-none, below-more}
-use borrow.Author.Tests.{lt-ltb, le-ltb, eq-eqb, ne-eqb, le-leb, lt-leb}
-use Rattle.job.specs.Check.{badVisibility, badKind, badAtom, badCoordinate, sizes}
+use borrow.Author.Tests.{lt-ltb, le-ltb}
+use Rattle.job.specs.Check.{badKind}
 use Rattle.job.proofs.Laws.{first-none, first-at}
-use Rattle.job.specs.Coordinate.{within}
-use Rattle.job.proofs.Laws.{or-last}
 use Rattle.job.proofs.find_kind.Statement.{statement}
 use Rattle.job.proofs.find_kind.Tie as tie
-use Rattle.job.proofs.find_kind.Reads as reads
-use Rattle.job.proofs.find_kind.Lts as lts
-use Rattle.job.proofs.segment_at.Reads as segment-at-reads
 
 abbrev Inv-loop : tie.InvT-loop
 Inv-loop b h n i₀ i = (i ≤ n) × ((k : ℕ) → k < i → badKind b h k ≡ false)
@@ -23,45 +18,17 @@ Inv-loop b h n i₀ i = (i ≤ n) × ((k : ℕ) → k < i → badKind b h k ≡ 
 abbrev μ-loop : tie.MeasureT-loop
 μ-loop b h n i₀ i = n - i
 
--- src/lib.rt:132:13
-cast-n : tie.Need-cast-n Inv-loop μ-loop
-cast-n c = search needs
-
--- src/lib.rt:134:5
 loop-holds : tie.Need-loop-holds Inv-loop μ-loop
 loop-holds c = (search needs, below-none _)
 
--- src/lib.rt:135:13
-segment-at-requires : tie.Need-segment-at-requires Inv-loop μ-loop
-segment-at-requires c κs = search needs
-
--- src/lib.rt:136:16
-shared-slice-read-if1 : tie.Need-shared-slice-read-if1 Inv-loop μ-loop
-shared-slice-read-if1 c = search needs
-
--- src/lib.rt:137:20
-add-result : tie.Need-add-result Inv-loop μ-loop
-add-result c = search needs
-
--- src/lib.rt:137:13
 returns : tie.Need-returns Inv-loop μ-loop
 unfolding badKind
 returns c = sym (first-at _ _ _ (search needs) (c .before .before .before .before .loop .inv .1) (ap (λ (k : ℕ). ltb 2 (getD (c .before .before .before .before .before .before .before .args .b .now) k 0)) (sym (c .before .before .segment-at .ensures)) ∙ lt-ltb _ _ (c .if1 .taken)))
 
--- src/lib.rt:139:9
-add-i : tie.Need-add-i Inv-loop μ-loop
-add-i c = search needs
-
--- src/lib.rt:134:5
-loop-less : tie.Need-loop-less Inv-loop μ-loop
-loop-less c = search needs
-
--- src/lib.rt:134:5
 loop-again : tie.Need-loop-again Inv-loop μ-loop
 unfolding badKind
 loop-again c = (search needs, below-more _ _ (c .before .before .before .before .loop .inv .1) (ap (λ (k : ℕ). ltb 2 (getD (c .before .before .before .before .before .before .before .args .b .now) k 0)) (sym (c .before .before .segment-at .ensures)) ∙ le-ltb _ _ (c .if1 .left)))
 
--- src/lib.rt:128:1
 returns-2 : tie.Need-returns-2 Inv-loop μ-loop
 returns-2 c = sym (first-none _ _ (λ k l. c .before .loop .inv .1 k (omega arith)))
 
@@ -71,13 +38,13 @@ find-kind-spec =
     (tie.spec
     Inv-loop
     μ-loop
-    cast-n
+    (λ c. search needs)
     loop-holds
-    segment-at-requires
-    shared-slice-read-if1
-    add-result
+    (λ c κs. search needs)
+    (λ c. search needs)
+    (λ c. search needs)
     returns
-    add-i
-    loop-less
+    (λ c. search needs)
+    (λ c. search needs)
     loop-again
     returns-2)

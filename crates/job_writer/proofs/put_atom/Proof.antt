@@ -7,36 +7,6 @@ use borrow.Author.Needs.{needs}
 use Rattle.job_writer.proofs.put_atom.Statement.{statement}
 use Rattle.job_writer.proofs.put_atom.Tie as tie
 
-put-u32-requires : tie.Need-put-u32-requires
-put-u32-requires c κs = search needs
-
-add-put-byte : tie.Need-add-put-byte
-add-put-byte c = search needs
-
-put-byte-requires : tie.Need-put-byte-requires
-put-byte-requires c κs = search needs
-
-add-put-u16 : tie.Need-add-put-u16
-add-put-u16 c = search needs
-
-put-u16-requires : tie.Need-put-u16-requires
-put-u16-requires c κs = search needs
-
-add-put-u16-2 : tie.Need-add-put-u16-2
-add-put-u16-2 c = search needs
-
-put-u16-requires-2 : tie.Need-put-u16-requires-2
-put-u16-requires-2 c κs = search needs
-
-add-put-point : tie.Need-add-put-point
-add-put-point c = search needs
-
-put-point-requires : tie.Need-put-point-requires
-put-point-requires c κs = search needs
-
-same-length : tie.Need-same-length
-same-length c = search needs
-
 returns : tie.Need-returns
 unfolding atomBytes
 returns c =
@@ -53,14 +23,14 @@ pub put-atom-spec : {M : Type 1} → statement M
 put-atom-spec =
     tie.close
     (tie.spec
-    put-u32-requires
-    add-put-byte
-    put-byte-requires
-    add-put-u16
-    put-u16-requires
-    add-put-u16-2
-    put-u16-requires-2
-    add-put-point
-    put-point-requires
-    same-length
+    (λ c κs. search needs)
+    (λ c. search needs)
+    (λ c κs. search needs)
+    (λ c. search needs)
+    (λ c κs. search needs)
+    (λ c. search needs)
+    (λ c κs. search needs)
+    (λ c. search needs)
+    (λ c κs. search needs)
+    (λ c. search needs)
     returns)

@@ -7,24 +7,6 @@ use borrow.Author.Needs.{needs}
 use Rattle.job_writer.proofs.put_point.Statement.{statement}
 use Rattle.job_writer.proofs.put_point.Tie as tie
 
-put-u64-requires : tie.Need-put-u64-requires
-put-u64-requires c κs = search needs
-
-add-put-u64 : tie.Need-add-put-u64
-add-put-u64 c = search needs
-
-put-u64-requires-2 : tie.Need-put-u64-requires-2
-put-u64-requires-2 c κs = search needs
-
-add-put-u64-2 : tie.Need-add-put-u64-2
-add-put-u64-2 c = search needs
-
-put-u64-requires-3 : tie.Need-put-u64-requires-3
-put-u64-requires-3 c κs = search needs
-
-same-length : tie.Need-same-length
-same-length c = search needs
-
 returns : tie.Need-returns
 unfolding point
 returns c =
@@ -36,10 +18,10 @@ pub put-point-spec : {M : Type 1} → statement M
 put-point-spec =
     tie.close
     (tie.spec
-    put-u64-requires
-    add-put-u64
-    put-u64-requires-2
-    add-put-u64-2
-    put-u64-requires-3
-    same-length
+    (λ c κs. search needs)
+    (λ c. search needs)
+    (λ c κs. search needs)
+    (λ c. search needs)
+    (λ c κs. search needs)
+    (λ c. search needs)
     returns)

@@ -18,12 +18,6 @@ abbrev μ-loop : tie.MeasureT-loop
 loop-holds : tie.Need-loop-holds Inv-loop μ-loop
 loop-holds c = (omega arith, omega arith, refl, refl, c .before .pre .2)
 
-shared-slice-read-b : tie.Need-shared-slice-read-b Inv-loop μ-loop
-shared-slice-read-b c = search needs
-
-is-digit-requires : tie.Need-is-digit-requires Inv-loop μ-loop
-is-digit-requires c κs = search needs
-
 mul-value : tie.Need-mul-value Inv-loop μ-loop
 mul-value c =
     let k : c .before .before .before .before .loop .k ≤ 8 = omega arith in
@@ -45,12 +39,6 @@ add-value c =
     let k : c .before .before .before .before .loop .k ≤ 8 = omega arith in
     omega (arith, digit-from b d, digit-to b d, small (c .before .before .before .before .loop .value) (c .before .before .before .before .loop .k) (c .before .before .before .before .loop .inv .4) k)
 
-add-k : tie.Need-add-k Inv-loop μ-loop
-add-k c = search needs
-
-loop-less : tie.Need-loop-less Inv-loop μ-loop
-loop-less c = search needs
-
 loop-again : tie.Need-loop-again Inv-loop μ-loop
 loop-again c =
     let d = sym (c .before .is-digit .ensures) ∙ c .if1 .taken in
@@ -71,14 +59,14 @@ digits-spec =
     Inv-loop
     μ-loop
     loop-holds
-    shared-slice-read-b
-    is-digit-requires
+    (λ c. search needs)
+    (λ c κs. search needs)
     mul-value
     sub-value
     cast-value
     add-value
-    add-k
-    loop-less
+    (λ c. search needs)
+    (λ c. search needs)
     loop-again
     returns
     returns-2)

@@ -6,45 +6,21 @@ use borrow.Author.Needs.{needs}
 use Rattle.pdb_fields.proofs.thousandths_in.Statement.{statement}
 use Rattle.pdb_fields.proofs.thousandths_in.Tie as tie
 
-past-blanks-requires : tie.Need-past-blanks-requires
-past-blanks-requires c κs = search needs
-
-lead-at-requires : tie.Need-lead-at-requires
-lead-at-requires c κs = search needs
-
-add-digits : tie.Need-add-digits
-add-digits c = search needs
-
 digits-requires : tie.Need-digits-requires
 digits-requires c κs = (omega arith, omega arith, ten-pos _)
-
-add-if1 : tie.Need-add-if1
-add-if1 c = search needs
 
 returns : tie.Need-returns
 unfolding thousandths
 returns c = no-digit _ _ _ _ _ (c .before .before .before .past-blanks .ensures .0) (c .before .before .lead-at .ensures .0) (c .before .digits .ensures .0) endThousandths (c .if1 .taken)
 
-lead-at-requires-2 : tie.Need-lead-at-requires-2
-lead-at-requires-2 c κs = search needs
-
 returns-2 : tie.Need-returns-2
 returns-2 c = no-point _ _ _ _ _ (c .before .before .before .before .before .past-blanks .ensures .0) (c .before .before .before .before .lead-at .ensures .0) (c .before .before .before .digits .ensures .0) (c .before .before .if1 .left) (λ z. c .if2 .taken (c .before .lead-at2 .ensures .0 ∙ z))
-
-add-digits-2 : tie.Need-add-digits-2
-add-digits-2 c = search needs
 
 digits-requires-2 : tie.Need-digits-requires-2
 digits-requires-2 c κs = (omega arith, omega arith, ten-more _ _ (c .before .before .before .digits .ensures .1))
 
-add-if3 : tie.Need-add-if3
-add-if3 c = search needs
-
 returns-3 : tie.Need-returns-3
 returns-3 c = not-three _ _ _ _ _ (c .before .before .before .before .before .before .before .past-blanks .ensures .0) (c .before .before .before .before .before .before .lead-at .ensures .0) (c .before .before .before .before .before .digits .ensures .0) (c .before .before .before .before .if1 .left) (sym (c .before .before .before .lead-at2 .ensures .0) ∙ c .before .before .if2 .left) _ _ (c .before .digits2 .ensures .0) (c .if3 .taken)
-
-past-blanks-requires-2 : tie.Need-past-blanks-requires-2
-past-blanks-requires-2 c κs = search needs
 
 returns-4 : tie.Need-returns-4
 returns-4 c = not-blank _ _ _ _ _ (c .before .before .before .before .before .before .before .before .before .past-blanks .ensures .0) (c .before .before .before .before .before .before .before .before .lead-at .ensures .0) (c .before .before .before .before .before .before .before .digits .ensures .0) (c .before .before .before .before .before .before .if1 .left) (sym (c .before .before .before .before .before .lead-at2 .ensures .0) ∙ c .before .before .before .before .if2 .left) _ _ (c .before .before .before .digits2 .ensures .0) (c .before .before .if3 .left) (blank-no _ _ _ (c .before .before .before .digits2 .ensures .0 .within) (c .before .past-blanks2 .ensures .0) (c .if4 .taken))
@@ -56,18 +32,18 @@ pub thousandths-in-spec : {M : Type 1} → statement M
 thousandths-in-spec =
     tie.close
     (tie.spec
-    past-blanks-requires
-    lead-at-requires
-    add-digits
+    (λ c κs. search needs)
+    (λ c κs. search needs)
+    (λ c. search needs)
     digits-requires
-    add-if1
+    (λ c. search needs)
     returns
-    lead-at-requires-2
+    (λ c κs. search needs)
     returns-2
-    add-digits-2
+    (λ c. search needs)
     digits-requires-2
-    add-if3
+    (λ c. search needs)
     returns-3
-    past-blanks-requires-2
+    (λ c κs. search needs)
     returns-4
     returns-5)

@@ -5,27 +5,12 @@ use borrow.Author.Needs.{needs}
 use Rattle.pdb_fields.proofs.whole_in.Statement.{statement}
 use Rattle.pdb_fields.proofs.whole_in.Tie as tie
 
-past-blanks-requires : tie.Need-past-blanks-requires
-past-blanks-requires c κs = search needs
-
-lead-at-requires : tie.Need-lead-at-requires
-lead-at-requires c κs = search needs
-
-add-digits : tie.Need-add-digits
-add-digits c = search needs
-
 digits-requires : tie.Need-digits-requires
 digits-requires c κs = (omega arith, omega arith, ten-pos _)
-
-add-if1 : tie.Need-add-if1
-add-if1 c = search needs
 
 returns : tie.Need-returns
 unfolding whole
 returns c = no-digit _ _ _ _ _ (c .before .before .before .past-blanks .ensures .0) (c .before .before .lead-at .ensures .0) (c .before .digits .ensures .0) endWhole (c .if1 .taken)
-
-past-blanks-requires-2 : tie.Need-past-blanks-requires-2
-past-blanks-requires-2 c κs = search needs
 
 returns-2 : tie.Need-returns-2
 returns-2 c = whole-no _ _ _ _ _ (c .before .before .before .before .before .past-blanks .ensures .0) (c .before .before .before .before .lead-at .ensures .0) (c .before .before .before .digits .ensures .0) (c .before .before .if1 .left) (blank-no _ _ _ (c .before .before .before .digits .ensures .0 .within) (c .before .past-blanks2 .ensures .0) (c .if2 .taken))
@@ -37,12 +22,12 @@ pub whole-in-spec : {M : Type 1} → statement M
 whole-in-spec =
     tie.close
     (tie.spec
-    past-blanks-requires
-    lead-at-requires
-    add-digits
+    (λ c κs. search needs)
+    (λ c κs. search needs)
+    (λ c. search needs)
     digits-requires
-    add-if1
+    (λ c. search needs)
     returns
-    past-blanks-requires-2
+    (λ c κs. search needs)
     returns-2
     returns-3)

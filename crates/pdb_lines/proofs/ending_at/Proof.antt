@@ -4,26 +4,14 @@ use borrow.Author.Needs.{needs}
 use Rattle.pdb_lines.proofs.ending_at.Statement.{statement}
 use Rattle.pdb_lines.proofs.ending_at.Tie as tie
 
-shared-slice-read-b : tie.Need-shared-slice-read-b
-shared-slice-read-b c = search needs
-
 returns : tie.Need-returns
 returns c = (ending-lf _ _ (c .before .before .pre) (c .if1 .taken), omega arith)
 
 returns-2 : tie.Need-returns-2
 returns-2 c = (ending-not _ _ (c .before .before .before .pre) (c .before .if1 .left) (c .if2 .taken), omega arith)
 
-sub-if3 : tie.Need-sub-if3
-sub-if3 c = search needs
-
 returns-3 : tie.Need-returns-3
 returns-3 c = (ending-cr _ _ (c .before .before .before .before .pre) (c .before .before .if1 .left) (c .before .if2 .left) (c .if3 .taken), omega arith)
-
-add-if4 : tie.Need-add-if4
-add-if4 c = search needs
-
-shared-slice-read-if4 : tie.Need-shared-slice-read-if4
-shared-slice-read-if4 c = search needs
 
 returns-4 : tie.Need-returns-4
 returns-4 c = (ending-crlf _ _ (c .before .before .before .before .before .before .pre) (c .before .before .before .before .if1 .left) (c .before .before .before .if2 .left) (c .before .before .if3 .left) (c .if4 .taken), omega arith)
@@ -35,12 +23,12 @@ pub ending-at-spec : {M : Type 1} → statement M
 ending-at-spec =
     tie.close
     (tie.spec
-    shared-slice-read-b
+    (λ c. search needs)
     returns
     returns-2
-    sub-if3
+    (λ c. search needs)
     returns-3
-    add-if4
-    shared-slice-read-if4
+    (λ c. search needs)
+    (λ c. search needs)
     returns-4
     returns-5)

@@ -22,20 +22,8 @@ loop-holds : tie.Need-loop-holds Inv-loop μ-loop
 loop-holds c = let P = c .past-plain .ensures in
     (P .start, P .end, plain-lines _ _ _ P)
 
-ending-at-requires : tie.Need-ending-at-requires Inv-loop μ-loop
-ending-at-requires c κs = search needs
-
-add-t7 : tie.Need-add-t7 Inv-loop μ-loop
-add-t7 c = search needs
-
 returns : tie.Need-returns Inv-loop μ-loop
 returns c = record { cut = found _ _ _ (c .before .before .before .loop .inv .0) _ (sym (c .before .ending-at .ensures .0)) (c .if1 .taken) (c .before .before .before .loop .inv .2); start = omega arith; end = omega arith; onward = omega arith; within = omega arith }
-
-add-i : tie.Need-add-i Inv-loop μ-loop
-add-i c = search needs
-
-loop-less : tie.Need-loop-less Inv-loop μ-loop
-loop-less c = search needs
 
 loop-again : tie.Need-loop-again Inv-loop μ-loop
 loop-again c = let z : (c .before .ending-at .result) ≡ 0 = omega arith in
@@ -52,10 +40,10 @@ line-at-spec =
     μ-loop
     past-plain-requires
     loop-holds
-    ending-at-requires
-    add-t7
+    (λ c κs. search needs)
+    (λ c. search needs)
     returns
-    add-i
-    loop-less
+    (λ c. search needs)
+    (λ c. search needs)
     loop-again
     returns-2)

@@ -5,7 +5,6 @@ use Rattle.pdb_reader.proofs.Answers.{empty-tables, surveyed-counts, re
 use borrow.Author.Needs.{needs}
 use Rattle.pdb_reader.proofs.read_pdb.Statement.{statement}
 use Rattle.pdb_reader.proofs.read_pdb.Tie as tie
-use Rattle.pdb_reader.proofs.read_pdb.Lts as lts
 
 survey-requires : tie.Need-survey-requires
 survey-requires c κs = empty-tables
@@ -14,29 +13,17 @@ find-fault-requires : tie.Need-find-fault-requires
 find-fault-requires c κs = let S = c .before .before .before .survey .ensures in
     (S .noted .known, S .fault, S .ahead-is)
 
-by-fault-requires : tie.Need-by-fault-requires
-by-fault-requires c κs = search needs
-
 returns : tie.Need-returns
 returns c = let S = c .before .before .before .before .before .before .survey .ensures in
     refused _ _ _ (c .before .before .find-fault .ensures .0) _ (c .by-fault .ensures) (λ e. residues-past _ (S .noted .past (c .before .if1 .taken)))
-
-is-clean-requires : tie.Need-is-clean-requires
-is-clean-requires c κs = search needs
 
 read-right-requires : tie.Need-read-right-requires
 read-right-requires c κs = let S = c .before .before .before .before .before .before .before .before .before .before .before .before .survey .ensures in
     let E = c .before .before .before .before .before .before .before .before .find-fault .ensures .1 (c .before .before .before .before .before .before .before .if1 .left) in
     (noted-same _ _ _ _ _ _ _ _ (S .noted) (E .0) (E .1), surveyed-counts _ _ _ _ _ _ S (ap isClean (sym (c .before .before .before .before .before .before .before .before .find-fault .ensures .0)) ∙ sym (c .before .before .before .before .before .before .is-clean .ensures) ∙ c .before .before .before .before .before .if2 .taken))
 
-same-length : tie.Need-same-length
-same-length c = search needs
-
 returns-2 : tie.Need-returns-2
 returns-2 c = right _ _ _ (c .before .before .before .before .before .before .before .before .before .before .before .find-fault .ensures .0) (sym (c .before .before .before .before .before .before .before .before .before .is-clean .ensures) ∙ c .before .before .before .before .before .before .before .before .if2 .taken) _ _ (c .before .before .read-right .ensures .0) (c .before .before .read-right .ensures .1)
-
-by-fault-requires-2 : tie.Need-by-fault-requires-2
-by-fault-requires-2 c κs = search needs
 
 returns-3 : tie.Need-returns-3
 returns-3 c = refused _ _ _ (c .before .before .before .before .find-fault .ensures .0) _ (c .by-fault2 .ensures) (λ e. absurd (clash (sym e ∙ sym (c .before .before .is-clean .ensures) ∙ c .before .if2 .left)))
@@ -47,11 +34,11 @@ read-pdb-spec =
     (tie.spec
     survey-requires
     find-fault-requires
-    by-fault-requires
+    (λ c κs. search needs)
     returns
-    is-clean-requires
+    (λ c κs. search needs)
     read-right-requires
-    same-length
+    (λ c. search needs)
     returns-2
-    by-fault-requires-2
+    (λ c κs. search needs)
     returns-3)

@@ -6,9 +6,6 @@ use borrow.Author.Needs.{needs}
 use Rattle.pdb_reader.proofs.read_right.Statement.{statement}
 use Rattle.pdb_reader.proofs.read_right.Tie as tie
 
-is-past-limits-requires : tie.Need-is-past-limits-requires
-is-past-limits-requires c κs = search needs
-
 returns : tie.Need-returns
 returns c = (refuse-limits _ (c .before .before .before .before .args .out .now) _ refl (sym (c .before .is-past-limits .ensures _ (c .before .before .before .before .pre .1)) ∙ c .if1 .taken), refl)
 
@@ -65,7 +62,7 @@ pub read-right-spec : {M : Type 1} → statement M
 read-right-spec =
     tie.close
     (tie.spec
-    is-past-limits-requires
+    (λ c κs. search needs)
     returns
     add-size
     mul-size

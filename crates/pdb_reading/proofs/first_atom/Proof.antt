@@ -19,31 +19,13 @@ abbrev μ-loop : tie.MeasureT-loop
 loop-holds : tie.Need-loop-holds Inv-loop μ-loop
 loop-holds c = (omega arith, refl)
 
-step-requires : tie.Need-step-requires Inv-loop μ-loop
-step-requires c κs = search needs
-
-enum-told : tie.Need-enum-told Inv-loop μ-loop
-enum-told c = search needs
-
 returns : tie.Need-returns Inv-loop μ-loop
 returns c = first-done _ _ _ [] (c .before .before .before .loop .inv .1) (stepped-done _ _ _ _ (c .before .before .step .ensures) (c .enum-told .given .1))
-
-enum-known-n : tie.Need-enum-known-n Inv-loop μ-loop
-enum-known-n c = search needs
-
-found-in-requires : tie.Need-found-in-requires Inv-loop μ-loop
-found-in-requires c κs = search needs
-
-enum-known-f : tie.Need-enum-known-f Inv-loop μ-loop
-enum-known-f c = search needs
 
 returns-2 : tie.Need-returns-2 Inv-loop μ-loop
 returns-2 c =
     let o = stepped-got _ _ _ _ _ _ _ (c .before .before .before .before .before .before .before .step .ensures) (c .before .before .before .before .before .n .given .1) in
     first-here _ _ _ _ _ _ (c .before .before .before .before .before .before .before .before .loop .inv .1) (o .is) (sym (c .before .before .before .found-in .ensures) ∙ c .before .f .given .1)
-
-enum-told-2 : tie.Need-enum-told-2 Inv-loop μ-loop
-enum-told-2 c = search needs
 
 loop-less : tie.Need-loop-less Inv-loop μ-loop
 loop-less c =
@@ -62,13 +44,13 @@ first-atom-spec =
     Inv-loop
     μ-loop
     loop-holds
-    step-requires
-    enum-told
+    (λ c κs. search needs)
+    (λ c. search needs)
     returns
-    enum-known-n
-    found-in-requires
-    enum-known-f
+    (λ c. search needs)
+    (λ c κs. search needs)
+    (λ c. search needs)
     returns-2
-    enum-told-2
+    (λ c. search needs)
     loop-less
     loop-again)

@@ -3,18 +3,6 @@ use borrow.Author.Needs.{needs}
 use Rattle.pdb_records.proofs.coordinate_in.Statement.{statement}
 use Rattle.pdb_records.proofs.coordinate_in.Tie as tie
 
-thousandths-in-requires : tie.Need-thousandths-in-requires
-thousandths-in-requires c κs = search needs
-
-enum-told : tie.Need-enum-told
-enum-told c = search needs
-
-enum-known-n : tie.Need-enum-known-n
-enum-known-n c = search needs
-
-coordinate-bits-requires : tie.Need-coordinate-bits-requires
-coordinate-bits-requires c κs = search needs
-
 returns : tie.Need-returns
 returns c = simp (sym (c .before .before .thousandths-in .ensures) ∙ c .enum-told .given .1)
 
@@ -25,9 +13,9 @@ pub coordinate-in-spec : {M : Type 1} → statement M
 coordinate-in-spec =
     tie.close
     (tie.spec
-    thousandths-in-requires
-    enum-told
-    enum-known-n
-    coordinate-bits-requires
+    (λ c κs. search needs)
+    (λ c. search needs)
+    (λ c. search needs)
+    (λ c κs. search needs)
     returns
     returns-2)

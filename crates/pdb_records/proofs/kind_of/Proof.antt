@@ -4,51 +4,21 @@ use borrow.Author.Needs.{needs}
 use Rattle.pdb_records.proofs.kind_of.Statement.{statement}
 use Rattle.pdb_records.proofs.kind_of.Tie as tie
 
-slice-aggregate-is-at : tie.Need-slice-aggregate-is-at
-slice-aggregate-is-at c = search needs
-
-is-at-requires : tie.Need-is-at-requires
-is-at-requires c κs = search needs
-
 returns : tie.Need-returns
 unfolding kindOf
 returns c = simp (sym (c .before .is-at .ensures) ∙ c .if1 .taken)
-
-slice-aggregate-is-at-2 : tie.Need-slice-aggregate-is-at-2
-slice-aggregate-is-at-2 c = search needs
-
-is-at-requires-2 : tie.Need-is-at-requires-2
-is-at-requires-2 c κs = search needs
 
 returns-2 : tie.Need-returns-2
 unfolding kindOf
 returns-2 c = simp (sym (c .before .before .before .before .is-at .ensures) ∙ c .before .before .before .if1 .left, sym (c .before .is-at2 .ensures) ∙ c .if2 .taken)
 
-slice-aggregate-is-at-3 : tie.Need-slice-aggregate-is-at-3
-slice-aggregate-is-at-3 c = search needs
-
-is-at-requires-3 : tie.Need-is-at-requires-3
-is-at-requires-3 c κs = search needs
-
 returns-3 : tie.Need-returns-3
 unfolding kindOf
 returns-3 c = simp (sym (c .before .before .before .before .before .before .before .is-at .ensures) ∙ c .before .before .before .before .before .before .if1 .left, sym (c .before .before .before .before .is-at2 .ensures) ∙ c .before .before .before .if2 .left, sym (c .before .is-at3 .ensures) ∙ c .if3 .taken)
 
-slice-aggregate-is-at-4 : tie.Need-slice-aggregate-is-at-4
-slice-aggregate-is-at-4 c = search needs
-
-is-at-requires-4 : tie.Need-is-at-requires-4
-is-at-requires-4 c κs = search needs
-
 returns-4 : tie.Need-returns-4
 unfolding kindOf
 returns-4 c = simp (sym (c .before .before .before .before .before .before .before .before .before .before .is-at .ensures) ∙ c .before .before .before .before .before .before .before .before .before .if1 .left, sym (c .before .before .before .before .before .before .before .is-at2 .ensures) ∙ c .before .before .before .before .before .before .if2 .left, sym (c .before .before .before .before .is-at3 .ensures) ∙ c .before .before .before .if3 .left, sym (c .before .is-at4 .ensures) ∙ c .if4 .taken)
-
-slice-aggregate-is-at-5 : tie.Need-slice-aggregate-is-at-5
-slice-aggregate-is-at-5 c = search needs
-
-is-at-requires-5 : tie.Need-is-at-requires-5
-is-at-requires-5 c κs = search needs
 
 returns-5 : tie.Need-returns-5
 unfolding kindOf
@@ -62,19 +32,19 @@ pub kind-of-spec : {M : Type 1} → statement M
 kind-of-spec =
     tie.close
     (tie.spec
-    slice-aggregate-is-at
-    is-at-requires
+    (λ c. search needs)
+    (λ c κs. search needs)
     returns
-    slice-aggregate-is-at-2
-    is-at-requires-2
+    (λ c. search needs)
+    (λ c κs. search needs)
     returns-2
-    slice-aggregate-is-at-3
-    is-at-requires-3
+    (λ c. search needs)
+    (λ c κs. search needs)
     returns-3
-    slice-aggregate-is-at-4
-    is-at-requires-4
+    (λ c. search needs)
+    (λ c κs. search needs)
     returns-4
-    slice-aggregate-is-at-5
-    is-at-requires-5
+    (λ c. search needs)
+    (λ c κs. search needs)
     returns-5
     returns-6)

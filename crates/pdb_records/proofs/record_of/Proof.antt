@@ -3,33 +3,6 @@ use borrow.Author.Needs.{needs}
 use Rattle.pdb_records.proofs.record_of.Statement.{statement}
 use Rattle.pdb_records.proofs.record_of.Tie as tie
 
-enum-told : tie.Need-enum-told
-enum-told c = search needs
-
-atom-of-requires : tie.Need-atom-of-requires
-atom-of-requires c κs = search needs
-
-enum-told-2 : tie.Need-enum-told-2
-enum-told-2 c = search needs
-
-segment-of-requires : tie.Need-segment-of-requires
-segment-of-requires c κs = search needs
-
-enum-told-3 : tie.Need-enum-told-3
-enum-told-3 c = search needs
-
-segment-of-requires-2 : tie.Need-segment-of-requires-2
-segment-of-requires-2 c κs = search needs
-
-enum-told-4 : tie.Need-enum-told-4
-enum-told-4 c = search needs
-
-enum-told-5 : tie.Need-enum-told-5
-enum-told-5 c = search needs
-
-enum-told-6 : tie.Need-enum-told-6
-enum-told-6 c = search needs
-
 returns : tie.Need-returns
 unfolding ofKind
 returns c = simp (c .before .enum-told .given .1, ← c .atom-of .ensures)
@@ -58,15 +31,15 @@ pub record-of-spec : {M : Type 1} → statement M
 record-of-spec =
     tie.close
     (tie.spec
-    enum-told
-    atom-of-requires
-    enum-told-2
-    segment-of-requires
-    enum-told-3
-    segment-of-requires-2
-    enum-told-4
-    enum-told-5
-    enum-told-6
+    (λ c. search needs)
+    (λ c κs. search needs)
+    (λ c. search needs)
+    (λ c κs. search needs)
+    (λ c. search needs)
+    (λ c κs. search needs)
+    (λ c. search needs)
+    (λ c. search needs)
+    (λ c. search needs)
     returns
     returns-2
     returns-3

@@ -9,27 +9,9 @@ returns : tie.Need-returns
 unfolding segmentOf
 returns c = simp (lt-ltb _ _ (c .if1 .taken))
 
-residue-at-requires : tie.Need-residue-at-requires
-residue-at-requires c κs = search needs
-
-enum-known-a : tie.Need-enum-known-a
-enum-known-a c = search needs
-
-enum-told : tie.Need-enum-told
-enum-told c = search needs
-
 returns-2 : tie.Need-returns-2
 unfolding segmentOf
 returns-2 c = simp (le-ltb _ _ (c .before .before .before .if1 .left), sym (c .before .before .residue-at .ensures) ∙ c .enum-told .given .1)
-
-residue-at-requires-2 : tie.Need-residue-at-requires-2
-residue-at-requires-2 c κs = search needs
-
-enum-known-b : tie.Need-enum-known-b
-enum-known-b c = search needs
-
-enum-told-2 : tie.Need-enum-told-2
-enum-told-2 c = search needs
 
 returns-3 : tie.Need-returns-3
 unfolding segmentOf
@@ -44,12 +26,12 @@ segment-of-spec =
     tie.close
     (tie.spec
     returns
-    residue-at-requires
-    enum-known-a
-    enum-told
+    (λ c κs. search needs)
+    (λ c. search needs)
+    (λ c. search needs)
     returns-2
-    residue-at-requires-2
-    enum-known-b
-    enum-told-2
+    (λ c κs. search needs)
+    (λ c. search needs)
+    (λ c. search needs)
     returns-3
     returns-4)

@@ -4,24 +4,6 @@ use borrow.Author.Needs.{needs}
 use Rattle.pdb_survey.proofs.mark.Statement.{statement}
 use Rattle.pdb_survey.proofs.mark.Tie as tie
 
-mul-if1 : tie.Need-mul-if1
-mul-if1 c = search needs
-
-element-copy-out-if1 : tie.Need-element-copy-out-if1
-element-copy-out-if1 c = search needs
-
-add-marks : tie.Need-add-marks
-add-marks c = search needs
-
-mul-marks : tie.Need-mul-marks
-mul-marks c = search needs
-
-element-write-marks : tie.Need-element-write-marks
-element-write-marks c = search needs
-
-add-result : tie.Need-add-result
-add-result c = search needs
-
 returns : tie.Need-returns
 returns c = (λ l M. mark-new _ _ l (c .before .before .args .letter) M (search needs) (c .if1 .taken), omega arith)
 
@@ -32,11 +14,11 @@ pub mark-spec : {M : Type 1} → statement M
 mark-spec =
     tie.close
     (tie.spec
-    mul-if1
-    element-copy-out-if1
-    add-marks
-    mul-marks
-    element-write-marks
-    add-result
+    (λ c. search needs)
+    (λ c. search needs)
+    (λ c. search needs)
+    (λ c. search needs)
+    (λ c. search needs)
+    (λ c. search needs)
     returns
     returns-2)

@@ -7,24 +7,6 @@ use borrow.Author.Needs.{needs}
 use Rattle.pdb_survey.proofs.note.Statement.{statement}
 use Rattle.pdb_survey.proofs.note.Tie as tie
 
-enum-known-r : tie.Need-enum-known-r
-enum-known-r c = search needs
-
-take-in-requires : tie.Need-take-in-requires
-take-in-requires c κs = search needs
-
-enum-told : tie.Need-enum-told
-enum-told c = search needs
-
-enum-told-2 : tie.Need-enum-told-2
-enum-told-2 c = search needs
-
-enum-told-3 : tie.Need-enum-told-3
-enum-told-3 c = search needs
-
-enum-told-4 : tie.Need-enum-told-4
-enum-told-4 c = search needs
-
 returns : tie.Need-returns
 returns c = (λ l N. noted-as _ _ _ _ _ l _ _ (ap atomsIn (c .before .before .before .before .before .before .r .given .1)) (c .take-in .ensures .0 l N), c .take-in .ensures .1, c .take-in .ensures .2)
 
@@ -44,12 +26,12 @@ pub note-spec : {M : Type 1} → statement M
 note-spec =
     tie.close
     (tie.spec
-    enum-known-r
-    take-in-requires
-    enum-told
-    enum-told-2
-    enum-told-3
-    enum-told-4
+    (λ c. search needs)
+    (λ c κs. search needs)
+    (λ c. search needs)
+    (λ c. search needs)
+    (λ c. search needs)
+    (λ c. search needs)
     returns
     returns-2
     returns-3

@@ -8,7 +8,6 @@ use Rattle.pdb_reading.proofs.Laws.{stepped-done, stepped-got}
 use Rattle.pdb_survey.proofs.Walk.{Surveying, surveying-start, surveying-over, surveying-more}
 use Rattle.pdb_survey.proofs.survey.Statement.{statement}
 use Rattle.pdb_survey.proofs.survey.Tie as tie
-use Rattle.pdb_survey.proofs.survey.Lts as lts
 
 abbrev Inv-loop : tie.InvT-loop
 Inv-loop s keys₀ links₀ ends₀ marks₀ at₀ seen₀ line₀ fault₀ ahead₀ counts₀ keys links ends marks at seen line fault ahead counts = Surveying s keys links ends marks at seen line fault ahead counts
@@ -22,23 +21,8 @@ loop-holds c = surveying-start _ _ _ _ _ (c .before .pre)
 step-requires : tie.Need-step-requires Inv-loop μ-loop
 step-requires c κs = c .loop .inv .inside
 
-enum-told : tie.Need-enum-told Inv-loop μ-loop
-enum-told c = search needs
-
 returns : tie.Need-returns Inv-loop μ-loop
 returns c = surveying-over _ _ _ _ _ _ _ _ _ _ _ (c .before .before .before .loop .inv) (stepped-done _ _ _ _ (c .before .before .step .ensures) (c .enum-told .given .1))
-
-enum-known-n : tie.Need-enum-known-n Inv-loop μ-loop
-enum-known-n c = search needs
-
-own-fault-requires : tie.Need-own-fault-requires Inv-loop μ-loop
-own-fault-requires c κs = search needs
-
-first-of-requires : tie.Need-first-of-requires Inv-loop μ-loop
-first-of-requires c κs = search needs
-
-count-segment-requires : tie.Need-count-segment-requires Inv-loop μ-loop
-count-segment-requires c κs = search needs
 
 add-ahead : tie.Need-add-ahead Inv-loop μ-loop
 add-ahead c = let o = stepped-got _ _ _ _ _ _ _ (c .before .before .before .before .before .before .step .ensures) (c .before .before .before .before .n .given .1) in
@@ -69,12 +53,12 @@ survey-spec =
     μ-loop
     loop-holds
     step-requires
-    enum-told
+    (λ c. search needs)
     returns
-    enum-known-n
-    own-fault-requires
-    first-of-requires
-    count-segment-requires
+    (λ c. search needs)
+    (λ c κs. search needs)
+    (λ c κs. search needs)
+    (λ c κs. search needs)
     add-ahead
     note-requires
     add-line

@@ -8,15 +8,6 @@ use Rattle.pdb_survey.proofs.take_in.Tie as tie
 returns : tie.Need-returns
 returns c = (λ l N. noted-over _ _ _ _ _ l N _ (c .if1 .taken), c .before .pre .1, omega arith)
 
-add-atoms : tie.Need-add-atoms
-add-atoms c = search needs
-
-find-requires : tie.Need-find-requires
-find-requires c κs = search needs
-
-mark-requires : tie.Need-mark-requires
-mark-requires c κs = search needs
-
 add-ends : tie.Need-add-ends
 add-ends c = omega (arith, c .before .before .before .find .ensures .1, c .before .before .before .before .before .before .before .before .pre .0 .few)
 
@@ -35,24 +26,6 @@ returns-3 c = (λ l N. noted-full _ _ _ _ _ l N (c .before .before .before .befo
 enter-requires : tie.Need-enter-requires
 enter-requires c κs = (c .before .before .before .before .before .before .before .before .before .before .before .pre .0, omega (arith, c .before .before .if3 .left, c .before .before .before .before .before .before .before .before .before .before .before .pre .0 .few))
 
-mul-ends-2 : tie.Need-mul-ends-2
-mul-ends-2 c = search needs
-
-element-write-ends-2 : tie.Need-element-write-ends-2
-element-write-ends-2 c = search needs
-
-add-ends-2 : tie.Need-add-ends-2
-add-ends-2 c = search needs
-
-mul-ends-3 : tie.Need-mul-ends-3
-mul-ends-3 c = search needs
-
-element-write-ends-3 : tie.Need-element-write-ends-3
-element-write-ends-3 c = search needs
-
-add-t22 : tie.Need-add-t22
-add-t22 c = search needs
-
 returns-4 : tie.Need-returns-4
 returns-4 c = (λ l N. noted-more _ _ _ _ _ l N (c .before .before .before .before .before .before .before .before .before .before .before .before .args .a) (c .before .before .before .before .before .before .before .before .before .before .before .if1 .left) _ _ _ _ _ _ (λ R. atom-new _ _ _ _ l (c .before .before .before .before .before .before .before .before .before .before .before .before .args .a) R _ (c .before .before .before .before .before .before .before .find .ensures .0) (c .before .before .before .before .if2 .left) (omega (arith, c .before .before .before .if3 .left, c .before .before .before .before .before .before .before .before .before .before .before .before .pre .0 .few)) _ _ (c .enter .ensures .0) (c .enter .ensures .1)) (λ M. c .before .before .before .before .before .mark .ensures .0 _ M), omega (arith, c .before .before .before .before .before .mark .ensures .1, c .before .before .before .before .before .before .before .before .before .before .before .before .pre .1), omega arith)
 
@@ -61,19 +34,19 @@ take-in-spec =
     tie.close
     (tie.spec
     returns
-    add-atoms
-    find-requires
-    mark-requires
+    (λ c. search needs)
+    (λ c κs. search needs)
+    (λ c κs. search needs)
     add-ends
     mul-ends
     element-write-ends
     returns-2
     returns-3
     enter-requires
-    mul-ends-2
-    element-write-ends-2
-    add-ends-2
-    mul-ends-3
-    element-write-ends-3
-    add-t22
+    (λ c. search needs)
+    (λ c. search needs)
+    (λ c. search needs)
+    (λ c. search needs)
+    (λ c. search needs)
+    (λ c. search needs)
     returns-4)

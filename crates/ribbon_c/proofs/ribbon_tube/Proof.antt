@@ -1,49 +1,33 @@
-use Prim.Native.Nat.{ℕ, _+_, _*_}
-use mathlib.Core.Path.{_≡_, refl, sym, ap, _∙_}
-use mathlib.Core.List.{List}
+use Prim.Native.Nat.{_+_, _*_}
+use mathlib.Core.Path.{sym, ap, _∙_}
 use lib.ListN.{length}
 use native.Mathlib.Omega.{arith}
 use Rattle.ribbon_c.proofs.Laws.{listed, part-full, part-empty}
 use borrow.Author.Needs.{needs}
 use Rattle.ribbon_c.proofs.ribbon_tube.Statement.{statement}
 use Rattle.ribbon_c.proofs.ribbon_tube.Tie as tie
-use Rattle.ribbon_c.proofs.ribbon_tube.Reads as reads
-use Rattle.ribbon_c.proofs.ribbon_tube.Lts as lts
-use Rattle.ribbon.proofs.tube.Reads as tube-reads
 
--- src/lib.rt:117:13
-tube-requires : tie.Need-tube-requires
-tube-requires c κs = search needs
-
--- src/lib.rt:120:9
 returns : tie.Need-returns
 returns c = part-empty _ _ _ (sym (c .if1 .taken) ∙ ap length (c .before .tube .ensures))
 
--- src/lib.rt:122:25
 mul-start : tie.Need-mul-start
 mul-start c = omega (arith, listed (c .before .before .before .before .args .tubes .now) (c .before .before .before .before .args .triangles .now) (c .before .before .before .before .args .k) (λ z. c .if1 .left (ap length (c .before .tube .ensures) ∙ z)))
 
--- src/lib.rt:122:25
 add-start : tie.Need-add-start
 add-start c = omega (arith, listed (c .before .before .before .before .args .tubes .now) (c .before .before .before .before .args .triangles .now) (c .before .before .before .before .args .k) (λ z. c .if1 .left (ap length (c .before .tube .ensures) ∙ z)))
 
--- src/lib.rt:122:19
 mul-start-2 : tie.Need-mul-start-2
 mul-start-2 c = omega (arith, listed (c .before .before .before .before .args .tubes .now) (c .before .before .before .before .args .triangles .now) (c .before .before .before .before .args .k) (λ z. c .if1 .left (ap length (c .before .tube .ensures) ∙ z)))
 
--- src/lib.rt:122:19
 shared-slice-read-start : tie.Need-shared-slice-read-start
 shared-slice-read-start c = listed (c .before .before .before .before .before .args .tubes .now) (c .before .before .before .before .before .args .triangles .now) (c .before .before .before .before .before .args .k) (λ z. c .before .if1 .left (ap length (c .before .before .tube .ensures) ∙ z))
 
--- src/lib.rt:122:19
 cast-start : tie.Need-cast-start
 cast-start c = omega (arith, c .shared-slice-known3 .given (5 * (c .before .before .before .before .before .args .k) + 4))
 
--- src/lib.rt:122:14
 mul-start-3 : tie.Need-mul-start-3
 mul-start-3 c = omega (arith, c .shared-slice-known3 .given (5 * (c .before .before .before .before .before .args .k) + 4))
 
--- src/lib.rt:108:1
 returns-2 : tie.Need-returns-2
 returns-2 c = part-full (c .before .before .before .before .before .args .tubes .now) (c .before .before .before .before .before .args .triangles .now) (c .before .before .before .before .before .args .k) _ (ap length (c .before .before .tube .ensures)) (c .before .if1 .left)
 
@@ -51,7 +35,7 @@ pub ribbon-tube-spec : {M : Type 1} → statement M
 ribbon-tube-spec =
     tie.close
     (tie.spec
-    tube-requires
+    (λ c κs. search needs)
     returns
     mul-start
     add-start

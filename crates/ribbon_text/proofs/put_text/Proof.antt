@@ -1,4 +1,4 @@
-use Prim.Native.Nat.{ℕ, _≤_, _-_, _+_}
+use Prim.Native.Nat.{ℕ, _≤_, _-_}
 use mathlib.Core.Path.{_≡_, refl, _∙_}
 use mathlib.Core.List.{[], _∷_}
 use lib.ListN.{length, getD}
@@ -8,8 +8,6 @@ use Rattle.buffers.proofs.Puts.{set-turn, kept}
 use Rattle.ribbon_text.proofs.Laws.{upto-all}
 use Rattle.ribbon_text.proofs.put_text.Statement.{statement}
 use Rattle.ribbon_text.proofs.put_text.Tie as tie
-use Rattle.ribbon_text.proofs.put_text.Reads as reads
-use Rattle.ribbon_text.proofs.put_text.Lts as lts
 
 abbrev Inv-loop : tie.InvT-loop
 Inv-loop out₀ at s i₀ out i = (i ≤ length s) × (out ≡ put out₀ at (upto (λ (k : ℕ). getD s k 0 ∷ []) i))
@@ -17,44 +15,34 @@ Inv-loop out₀ at s i₀ out i = (i ≤ length s) × (out ≡ put out₀ at (up
 abbrev μ-loop : tie.MeasureT-loop
 μ-loop out₀ at s i₀ out i = length s - i
 
--- src/lib.rt:14:5
 loop-holds : tie.Need-loop-holds Inv-loop μ-loop
 unfolding put upto
 loop-holds c = (omega arith, refl)
 
--- src/lib.rt:15:23
 shared-slice-read-out : tie.Need-shared-slice-read-out Inv-loop μ-loop
 shared-slice-read-out c = omega arith
 
--- src/lib.rt:15:13
 add-out : tie.Need-add-out Inv-loop μ-loop
 add-out c = omega arith
 
--- src/lib.rt:15:9
 slice-write-out : tie.Need-slice-write-out Inv-loop μ-loop
 slice-write-out c = omega (arith, kept _ _ _ (c .before .before .loop .inv .1))
 
--- src/lib.rt:16:9
 add-i : tie.Need-add-i Inv-loop μ-loop
 add-i c = omega arith
 
--- src/lib.rt:14:5
 loop-less : tie.Need-loop-less Inv-loop μ-loop
 loop-less c = omega arith
 
--- src/lib.rt:14:5
 loop-again : tie.Need-loop-again Inv-loop μ-loop
 loop-again c = (omega arith, set-turn (λ (k : ℕ). getD (c .before .before .before .args .s .now) k 0) _ _ _ _ (c .before .before .loop .inv .1) refl refl)
 
--- src/lib.rt:18:5
 add-result : tie.Need-add-result Inv-loop μ-loop
 add-result c = omega arith
 
--- src/lib.rt:9:1
 same-length : tie.Need-same-length Inv-loop μ-loop
 same-length c = kept _ _ _ (c .before .loop .inv .1)
 
--- src/lib.rt:9:1
 returns : tie.Need-returns Inv-loop μ-loop
 returns c = let e : c .before .loop .i ≡ length (c .before .before .args .s .now) = omega arith in (c .before .loop .inv .1 ∙ rw (e, upto-all), omega arith)
 

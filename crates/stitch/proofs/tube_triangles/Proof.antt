@@ -19,24 +19,6 @@ Inv-loop triangles₀ at first n bands j₀ place₀ a₀ b₀ triangles j place
 abbrev μ-loop : tie.MeasureT-loop
 μ-loop triangles₀ at first n bands j₀ place₀ a₀ b₀ triangles j place a b = bands - j
 
-sub-bands : tie.Need-sub-bands Inv-loop μ-loop
-sub-bands c = search needs
-
-mul-bands : tie.Need-mul-bands Inv-loop μ-loop
-mul-bands c = search needs
-
-add-emit-cap : tie.Need-add-emit-cap Inv-loop μ-loop
-add-emit-cap c = search needs
-
-emit-cap-requires : tie.Need-emit-cap-requires Inv-loop μ-loop
-emit-cap-requires c κs = search needs
-
-add-place : tie.Need-add-place Inv-loop μ-loop
-add-place c = search needs
-
-add-b : tie.Need-add-b Inv-loop μ-loop
-add-b c = search needs
-
 loop-holds : tie.Need-loop-holds Inv-loop μ-loop
 unfolding put upto ring
 loop-holds c = (omega arith, omega arith, refl, omega arith, omega arith, omega arith, refl)
@@ -46,15 +28,6 @@ append-ring-and-stitch-requires c κs = (omega (arith, kept _ _ _ (c .before .be
 
 add-place-2 : tie.Need-add-place-2 Inv-loop μ-loop
 add-place-2 c = omega (arith, kept _ _ _ (c .before .before .before .before .before .loop .inv .6), kept _ _ _ (c .before .before .before .before .before .before .before .before .emit-cap .ensures))
-
-add-b-2 : tie.Need-add-b-2 Inv-loop μ-loop
-add-b-2 c = search needs
-
-add-j : tie.Need-add-j Inv-loop μ-loop
-add-j c = search needs
-
-loop-less : tie.Need-loop-less Inv-loop μ-loop
-loop-less c = search needs
 
 loop-again : tie.Need-loop-again Inv-loop μ-loop
 unfolding ring
@@ -87,18 +60,18 @@ tube-triangles-spec =
     (tie.spec
     Inv-loop
     μ-loop
-    sub-bands
-    mul-bands
-    add-emit-cap
-    emit-cap-requires
-    add-place
-    add-b
+    (λ c. search needs)
+    (λ c. search needs)
+    (λ c. search needs)
+    (λ c κs. search needs)
+    (λ c. search needs)
+    (λ c. search needs)
     loop-holds
     append-ring-and-stitch-requires
     add-place-2
-    add-b-2
-    add-j
-    loop-less
+    (λ c. search needs)
+    (λ c. search needs)
+    (λ c. search needs)
     loop-again
     emit-cap-requires-2
     same-length

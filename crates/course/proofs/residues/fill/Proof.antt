@@ -20,17 +20,8 @@ loop-holds : tie.Need-loop-holds Inv-loop μ-loop
 unfolding put upto
 loop-holds c = (omega arith, refl)
 
-mul-put-vec : tie.Need-mul-put-vec Inv-loop μ-loop
-mul-put-vec c = search needs
-
 put-vec-requires : tie.Need-put-vec-requires Inv-loop μ-loop
 put-vec-requires c κs = omega (arith, kept _ _ _ (c .before .before .loop .inv .1))
-
-add-i : tie.Need-add-i Inv-loop μ-loop
-add-i c = search needs
-
-loop-less : tie.Need-loop-less Inv-loop μ-loop
-loop-less c = search needs
 
 loop-again : tie.Need-loop-again Inv-loop μ-loop
 loop-again c = (omega arith, turn _ 3 (λ _. refl) _ 0 _ (c .before .before .before .before .before .loop .i) (c .before .before .put-vec .ensures) (c .before .before .before .before .before .loop .inv .1) (omega arith))
@@ -49,10 +40,10 @@ fill-spec =
     Inv-loop
     μ-loop
     loop-holds
-    mul-put-vec
+    (λ c. search needs)
     put-vec-requires
-    add-i
-    loop-less
+    (λ c. search needs)
+    (λ c. search needs)
     loop-again
     same-length
     returns)

@@ -8,15 +8,6 @@ use borrow.Author.Needs.{needs}
 use Rattle.course.proofs.residues.lay_course.Statement.{statement}
 use Rattle.course.proofs.residues.lay_course.Tie as tie
 
-mul-m : tie.Need-mul-m
-mul-m c = search needs
-
-lay-guides-requires : tie.Need-lay-guides-requires
-lay-guides-requires c κs = search needs
-
-slice-relend-prefix-straighten : tie.Need-slice-relend-prefix-straighten
-slice-relend-prefix-straighten c = search needs
-
 slice-aggregate-straighten : tie.Need-slice-aggregate-straighten
 slice-aggregate-straighten c = let g = guidesOf (c .before .before .before .before .before .before .before .args .kind) (take (3 * c .before .before .before .before .before .before .before .args .n) (now (c .before .before .before .before .before .before .before .args .course))) (oxygenAt (now (c .before .before .before .before .before .before .before .args .flags)) (drop (3 * c .before .before .before .before .before .before .before .args .n) (now (c .before .before .before .before .before .before .before .args .course)))) (c .before .before .before .before .before .before .before .args .n) in
     sym (length-laid (now (c .before .before .before .before .before .before .before .args .flags)) (now (c .before .before .before .before .before .before .before .args .course)) (c .before .before .before .before .before .before .before .args .n) (c .before .before .before .before .before .before .before .pre .2) g (c .before .before .before .lay-guides .ensures))
@@ -24,9 +15,6 @@ slice-aggregate-straighten c = let g = guidesOf (c .before .before .before .befo
 straighten-requires : tie.Need-straighten-requires
 straighten-requires c κs = let g = guidesOf (c .before .before .before .before .before .before .before .args .kind) (take (3 * c .before .before .before .before .before .before .before .args .n) (now (c .before .before .before .before .before .before .before .args .course))) (oxygenAt (now (c .before .before .before .before .before .before .before .args .flags)) (drop (3 * c .before .before .before .before .before .before .before .args .n) (now (c .before .before .before .before .before .before .before .args .course)))) (c .before .before .before .before .before .before .before .args .n) in
     smoothable _ (c .before .before .before .before .before .before .before .args .n) (length-laid (now (c .before .before .before .before .before .before .before .args .flags)) (now (c .before .before .before .before .before .before .before .args .course)) (c .before .before .before .before .before .before .before .args .n) (c .before .before .before .before .before .before .before .pre .2) g (c .before .before .before .lay-guides .ensures)) (c .before .before .before .before .before .before .before .pre .0)
-
-same-length : tie.Need-same-length
-same-length c = search needs
 
 returns : tie.Need-returns
 returns c = let g = guidesOf (c .before .before .before .before .before .before .before .before .before .before .args .kind) (take (3 * c .before .before .before .before .before .before .before .before .before .before .args .n) (now (c .before .before .before .before .before .before .before .before .before .before .args .course))) (oxygenAt (now (c .before .before .before .before .before .before .before .before .before .before .args .flags)) (drop (3 * c .before .before .before .before .before .before .before .before .before .before .args .n) (now (c .before .before .before .before .before .before .before .before .before .before .args .course)))) (c .before .before .before .before .before .before .before .before .before .before .args .n) in
@@ -36,10 +24,10 @@ pub lay-course-spec : {M : Type 1} → statement M
 lay-course-spec =
     tie.close
     (tie.spec
-    mul-m
-    lay-guides-requires
-    slice-relend-prefix-straighten
+    (λ c. search needs)
+    (λ c κs. search needs)
+    (λ c. search needs)
     slice-aggregate-straighten
     straighten-requires
-    same-length
+    (λ c. search needs)
     returns)

@@ -7,23 +7,8 @@ use borrow.Author.Needs.{needs}
 use Rattle.course.proofs.residues.raw_at.Statement.{statement}
 use Rattle.course.proofs.residues.raw_at.Tie as tie
 
-mul-m : tie.Need-mul-m
-mul-m c = search needs
-
 slice-aggregate-raw-of : tie.Need-slice-aggregate-raw-of
 slice-aggregate-raw-of c = sym (length-take-le _ _ (omega arith))
-
-mul-raw-of : tie.Need-mul-raw-of
-mul-raw-of c = search needs
-
-sub-raw-of : tie.Need-sub-raw-of
-sub-raw-of c = search needs
-
-part-raw-of-start : tie.Need-part-raw-of-start
-part-raw-of-start c = search needs
-
-part-raw-of-end : tie.Need-part-raw-of-end
-part-raw-of-end c = search needs
 
 raw-of-requires : tie.Need-raw-of-requires
 raw-of-requires c κs = (omega arith, simp length-take (omega arith), omega arith, simp (rest, length-drop) (omega arith))
@@ -35,11 +20,11 @@ pub raw-at-spec : {M : Type 1} → statement M
 raw-at-spec =
     tie.close
     (tie.spec
-    mul-m
+    (λ c. search needs)
     slice-aggregate-raw-of
-    mul-raw-of
-    sub-raw-of
-    part-raw-of-start
-    part-raw-of-end
+    (λ c. search needs)
+    (λ c. search needs)
+    (λ c. search needs)
+    (λ c. search needs)
     raw-of-requires
     returns)

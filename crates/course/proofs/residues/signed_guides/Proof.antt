@@ -16,55 +16,19 @@ Inv-loop flags course₀ n prev₀ i₀ course prev i = (i + 1 ≤ n) × (prev �
 abbrev μ-loop : tie.MeasureT-loop
 μ-loop flags course₀ n prev₀ i₀ course prev i = n - i
 
-raw-at-requires : tie.Need-raw-at-requires Inv-loop μ-loop
-raw-at-requires c κs = search needs
-
 loop-holds : tie.Need-loop-holds Inv-loop μ-loop
 unfolding put upto signedAt
 loop-holds c = (omega arith, c .raw-at .ensures, refl)
 
-add-loop : tie.Need-add-loop Inv-loop μ-loop
-add-loop c = search needs
-
-mul-put-vec : tie.Need-mul-put-vec Inv-loop μ-loop
-mul-put-vec c = search needs
-
-mul-put-vec-2 : tie.Need-mul-put-vec-2 Inv-loop μ-loop
-mul-put-vec-2 c = search needs
-
-add-put-vec : tie.Need-add-put-vec Inv-loop μ-loop
-add-put-vec c = search needs
-
 put-vec-requires : tie.Need-put-vec-requires Inv-loop μ-loop
 put-vec-requires c κs = omega (arith, kept _ _ _ (c .before .before .loop .inv .2))
-
-add-raw-at : tie.Need-add-raw-at Inv-loop μ-loop
-add-raw-at c = search needs
 
 raw-at-requires-2 : tie.Need-raw-at-requires-2 Inv-loop μ-loop
 raw-at-requires-2 c κs = (omega arith, omega arith, omega (arith, kept _ _ _ (c .before .before .before .put-vec .ensures), kept _ _ _ (c .before .before .before .before .before .before .loop .inv .2)))
 
-agreeing-requires : tie.Need-agreeing-requires Inv-loop μ-loop
-agreeing-requires c κs = search needs
-
-add-i : tie.Need-add-i Inv-loop μ-loop
-add-i c = search needs
-
-loop-less : tie.Need-loop-less Inv-loop μ-loop
-loop-less c = search needs
-
 loop-again : tie.Need-loop-again Inv-loop μ-loop
 loop-again c = let p = signed-put _ _ _ (c .before .before .before .before .before .before .before .before .loop .i) (c .before .before .before .before .before .before .before .before .loop .inv .1) (c .before .before .before .before .before .before .before .before .loop .inv .2) (c .before .before .before .before .before .put-vec .ensures) in
     (omega arith, signed-step _ (c .before .before .before .before .before .before .before .before .loop .i) (c .before .before .before .before .before .before .before .before .loop .inv .1) (c .before .raw-at2 .ensures ∙ raw-still _ _ _ _ (c .before .before .before .before .before .before .before .before .loop .i + 1) (c .before .before .before .before .before .before .before .before .loop .i + 1) (λ _. refl) p (omega arith)) (c .agreeing .ensures), p)
-
-mul-put-vec-3 : tie.Need-mul-put-vec-3 Inv-loop μ-loop
-mul-put-vec-3 c = search needs
-
-mul-put-vec-4 : tie.Need-mul-put-vec-4 Inv-loop μ-loop
-mul-put-vec-4 c = search needs
-
-add-put-vec-2 : tie.Need-add-put-vec-2 Inv-loop μ-loop
-add-put-vec-2 c = search needs
 
 put-vec-requires-2 : tie.Need-put-vec-requires-2 Inv-loop μ-loop
 put-vec-requires-2 c κs = omega (arith, kept _ _ _ (c .before .before .loop .inv .2))
@@ -81,22 +45,22 @@ signed-guides-spec =
     (tie.spec
     Inv-loop
     μ-loop
-    raw-at-requires
+    (λ c κs. search needs)
     loop-holds
-    add-loop
-    mul-put-vec
-    mul-put-vec-2
-    add-put-vec
+    (λ c. search needs)
+    (λ c. search needs)
+    (λ c. search needs)
+    (λ c. search needs)
     put-vec-requires
-    add-raw-at
+    (λ c. search needs)
     raw-at-requires-2
-    agreeing-requires
-    add-i
-    loop-less
+    (λ c κs. search needs)
+    (λ c. search needs)
+    (λ c. search needs)
     loop-again
-    mul-put-vec-3
-    mul-put-vec-4
-    add-put-vec-2
+    (λ c. search needs)
+    (λ c. search needs)
+    (λ c. search needs)
     put-vec-requires-2
     same-length
     returns)

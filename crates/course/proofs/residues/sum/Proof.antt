@@ -17,18 +17,6 @@ loop-holds : tie.Need-loop-holds Inv-loop μ-loop
 unfolding sumOf
 loop-holds c = (omega arith, refl)
 
-get-vec-requires : tie.Need-get-vec-requires Inv-loop μ-loop
-get-vec-requires c κs = search needs
-
-add-requires : tie.Need-add-requires Inv-loop μ-loop
-add-requires c κs = search needs
-
-add-i : tie.Need-add-i Inv-loop μ-loop
-add-i c = search needs
-
-loop-less : tie.Need-loop-less Inv-loop μ-loop
-loop-less c = search needs
-
 loop-again : tie.Need-loop-again Inv-loop μ-loop
 loop-again c = (omega arith, sum-step _ _ (c .before .before .before .loop .inv .1) (c .before .get-vec .ensures) (c .add .ensures))
 
@@ -43,9 +31,9 @@ sum-spec =
     Inv-loop
     μ-loop
     loop-holds
-    get-vec-requires
-    add-requires
-    add-i
-    loop-less
+    (λ c κs. search needs)
+    (λ c κs. search needs)
+    (λ c. search needs)
+    (λ c. search needs)
     loop-again
     returns)

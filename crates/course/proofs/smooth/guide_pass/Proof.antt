@@ -16,9 +16,6 @@ Inv-loop list₀ n prev₀ i₀ list prev i = (i ≤ n) × (prev ≡ vecAt list�
 abbrev μ-loop : tie.MeasureT-loop
 μ-loop list₀ n prev₀ i₀ list prev i = n - i
 
-get-vec-requires : tie.Need-get-vec-requires Inv-loop μ-loop
-get-vec-requires c κs = search needs
-
 loop-holds : tie.Need-loop-holds Inv-loop μ-loop
 unfolding put upto
 loop-holds c = (omega arith, c .get-vec .ensures, refl)
@@ -26,26 +23,11 @@ loop-holds c = (omega arith, c .get-vec .ensures, refl)
 get-vec-requires-2 : tie.Need-get-vec-requires-2 Inv-loop μ-loop
 get-vec-requires-2 c κs = omega (arith, kept _ _ _ (c .before .before .loop .inv .2))
 
-after-requires : tie.Need-after-requires Inv-loop μ-loop
-after-requires c κs = search needs
-
 get-vec-requires-3 : tie.Need-get-vec-requires-3 Inv-loop μ-loop
 get-vec-requires-3 c κs = omega (arith, kept _ _ _ (c .before .before .before .before .before .loop .inv .2))
 
-mul-put-vec : tie.Need-mul-put-vec Inv-loop μ-loop
-mul-put-vec c = search needs
-
-smooth-guide-requires : tie.Need-smooth-guide-requires Inv-loop μ-loop
-smooth-guide-requires c κs = search needs
-
 put-vec-requires : tie.Need-put-vec-requires Inv-loop μ-loop
 put-vec-requires c κs = omega (arith, kept _ _ _ (c .before .before .before .before .before .before .before .before .loop .inv .2))
-
-add-i : tie.Need-add-i Inv-loop μ-loop
-add-i c = search needs
-
-loop-less : tie.Need-loop-less Inv-loop μ-loop
-loop-less c = search needs
 
 loop-again : tie.Need-loop-again Inv-loop μ-loop
 loop-again c = let s = guide-step _ _ (c .before .before .before .before .before .before .before .before .before .before .before .loop .i) (c .before .before .before .before .before .before .after .result) (c .before .before .before .before .before .before .before .before .before .before .before .loop .inv .2) (c .before .before .before .before .before .before .before .before .before .before .before .loop .inv .1) (c .before .before .before .before .before .before .before .before .get-vec2 .ensures) (c .before .before .before .before .before .get-vec3 .ensures) (c .before .before .before .before .before .before .after .ensures .0) (c .before .before .before .before .before .before .after .ensures .2) (c .before .before .before .smooth-guide .ensures) (c .before .before .put-vec .ensures) in
@@ -64,16 +46,16 @@ guide-pass-spec =
     (tie.spec
     Inv-loop
     μ-loop
-    get-vec-requires
+    (λ c κs. search needs)
     loop-holds
     get-vec-requires-2
-    after-requires
+    (λ c κs. search needs)
     get-vec-requires-3
-    mul-put-vec
-    smooth-guide-requires
+    (λ c. search needs)
+    (λ c κs. search needs)
     put-vec-requires
-    add-i
-    loop-less
+    (λ c. search needs)
+    (λ c. search needs)
     loop-again
     same-length
     returns)

@@ -16,45 +16,18 @@ Inv-loop list₀ n prev₀ i₀ list prev i = (i + 2 ≤ n) × (prev ≡ vecAt l
 abbrev μ-loop : tie.MeasureT-loop
 μ-loop list₀ n prev₀ i₀ list prev i = n - i
 
-get-vec-requires : tie.Need-get-vec-requires Inv-loop μ-loop
-get-vec-requires c κs = search needs
-
 loop-holds : tie.Need-loop-holds Inv-loop μ-loop
 unfolding put upto
 loop-holds c = (omega arith, c .get-vec .ensures, refl)
 
-add-loop : tie.Need-add-loop Inv-loop μ-loop
-add-loop c = search needs
-
-add-get-vec : tie.Need-add-get-vec Inv-loop μ-loop
-add-get-vec c = search needs
-
 get-vec-requires-2 : tie.Need-get-vec-requires-2 Inv-loop μ-loop
 get-vec-requires-2 c κs = omega (arith, kept _ _ _ (c .before .before .loop .inv .2))
-
-add-get-vec-2 : tie.Need-add-get-vec-2 Inv-loop μ-loop
-add-get-vec-2 c = search needs
 
 get-vec-requires-3 : tie.Need-get-vec-requires-3 Inv-loop μ-loop
 get-vec-requires-3 c κs = omega (arith, kept _ _ _ (c .before .before .before .before .loop .inv .2))
 
-mul-put-vec : tie.Need-mul-put-vec Inv-loop μ-loop
-mul-put-vec c = search needs
-
-add-put-vec : tie.Need-add-put-vec Inv-loop μ-loop
-add-put-vec c = search needs
-
-smooth-position-requires : tie.Need-smooth-position-requires Inv-loop μ-loop
-smooth-position-requires c κs = search needs
-
 put-vec-requires : tie.Need-put-vec-requires Inv-loop μ-loop
 put-vec-requires c κs = omega (arith, kept _ _ _ (c .before .before .before .before .before .before .before .loop .inv .2))
-
-add-i : tie.Need-add-i Inv-loop μ-loop
-add-i c = search needs
-
-loop-less : tie.Need-loop-less Inv-loop μ-loop
-loop-less c = search needs
 
 loop-again : tie.Need-loop-again Inv-loop μ-loop
 loop-again c = let s = point-step _ (c .before .before .before .before .before .before .before .before .before .before .loop .i) (c .before .before .before .before .before .before .before .before .before .before .loop .inv .2) (c .before .before .before .before .before .before .before .before .before .before .loop .inv .1) (c .before .before .before .before .before .before .before .get-vec2 .ensures) (c .before .before .before .before .before .get-vec3 .ensures) (c .before .before .before .smooth-position .ensures) (c .before .before .put-vec .ensures) in
@@ -74,19 +47,19 @@ position-pass-spec =
     (tie.spec
     Inv-loop
     μ-loop
-    get-vec-requires
+    (λ c κs. search needs)
     loop-holds
-    add-loop
-    add-get-vec
+    (λ c. search needs)
+    (λ c. search needs)
     get-vec-requires-2
-    add-get-vec-2
+    (λ c. search needs)
     get-vec-requires-3
-    mul-put-vec
-    add-put-vec
-    smooth-position-requires
+    (λ c. search needs)
+    (λ c. search needs)
+    (λ c κs. search needs)
     put-vec-requires
-    add-i
-    loop-less
+    (λ c. search needs)
+    (λ c. search needs)
     loop-again
     same-length
     returns)

@@ -22,12 +22,6 @@ loop-holds c = (omega arith, refl, refl)
 guide-pass-requires : tie.Need-guide-pass-requires Inv-loop μ-loop
 guide-pass-requires c κs = (omega (arith, c .before .before .before .before .pre .two), omega (arith, c .before .before .before .before .pre .whole))
 
-add-k : tie.Need-add-k Inv-loop μ-loop
-add-k c = search needs
-
-loop-less : tie.Need-loop-less Inv-loop μ-loop
-loop-less c = search needs
-
 loop-again : tie.Need-loop-again Inv-loop μ-loop
 loop-again c = (omega arith, ap length (c .before .before .guide-pass .ensures) ∙ length-guides (vectors (now (c .before .before .before .before .before .before .before .args .list))) (c .before .before .before .before .before .loop .list) ∙ sym (c .before .before .before .before .before .before .before .pre .whole), again _ (c .before .before .before .before .before .loop .k) _ (c .before .before .guide-pass .ensures) (c .before .before .before .before .before .loop .inv .2))
 
@@ -47,8 +41,8 @@ smooth-guides-spec =
     μ-loop
     loop-holds
     guide-pass-requires
-    add-k
-    loop-less
+    (λ c. search needs)
+    (λ c. search needs)
     loop-again
     same-length
     returns)

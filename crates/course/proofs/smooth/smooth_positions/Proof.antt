@@ -22,12 +22,6 @@ loop-holds c = (omega arith, refl, refl)
 position-pass-requires : tie.Need-position-pass-requires Inv-loop μ-loop
 position-pass-requires c κs = (omega (arith, c .before .before .before .before .pre .two), omega (arith, c .before .before .before .before .pre .whole))
 
-add-k : tie.Need-add-k Inv-loop μ-loop
-add-k c = search needs
-
-loop-less : tie.Need-loop-less Inv-loop μ-loop
-loop-less c = search needs
-
 loop-again : tie.Need-loop-again Inv-loop μ-loop
 loop-again c = (omega arith, ap length (c .before .before .position-pass .ensures) ∙ length-points (vectors (now (c .before .before .before .before .before .before .before .args .list))) (c .before .before .before .before .before .loop .list) ∙ c .before .before .before .before .before .loop .inv .1, again _ (c .before .before .before .before .before .loop .k) _ (c .before .before .position-pass .ensures) (c .before .before .before .before .before .loop .inv .2))
 
@@ -47,8 +41,8 @@ smooth-positions-spec =
     μ-loop
     loop-holds
     position-pass-requires
-    add-k
-    loop-less
+    (λ c. search needs)
+    (λ c. search needs)
     loop-again
     same-length
     returns)

@@ -10,15 +10,6 @@ use Rattle.floats.proofs.narrow.magnitude.Tie as tie
 returns : tie.Need-returns
 returns c = (omega arith, λ s. none s (c .before .args .e) (c .before .args .t) (c .before .pre .0) (c .if1 .taken))
 
-add-m : tie.Need-add-m
-add-m c = search needs
-
-sub-nearest-div : tie.Need-sub-nearest-div
-sub-nearest-div c = search needs
-
-shl-nearest-div : tie.Need-shl-nearest-div
-shl-nearest-div c = search needs
-
 nearest-div-requires : tie.Need-nearest-div-requires
 nearest-div-requires c κs =
     let e = c .before .before .args .e in
@@ -26,12 +17,6 @@ nearest-div-requires c κs =
 
 returns-2 : tie.Need-returns-2
 returns-2 c = let a = c .before .before .before .args in (small-le (a .e) (a .t) (c .nearest-div .result) (omega arith) (omega arith) (omega arith) (c .nearest-div .ensures), λ s. small-at s (a .e) (a .t) (omega arith) (omega arith) (omega arith) ∙ ap (λ (x : ℕ). cond s (2 ^ 31) 0 + x) (sym (c .nearest-div .ensures)))
-
-mul-result : tie.Need-mul-result
-mul-result c = search needs
-
-nearest-div-requires-2 : tie.Need-nearest-div-requires-2
-nearest-div-requires-2 c κs = search needs
 
 add-result : tie.Need-add-result
 add-result c = omega (arith, high-le (c .before .before .before .before .args .t) (c .nearest-div2 .result) (omega arith) (c .nearest-div2 .ensures))
@@ -47,13 +32,13 @@ magnitude-spec =
     tie.close
     (tie.spec
     returns
-    add-m
-    sub-nearest-div
-    shl-nearest-div
+    (λ c. search needs)
+    (λ c. search needs)
+    (λ c. search needs)
     nearest-div-requires
     returns-2
-    mul-result
-    nearest-div-requires-2
+    (λ c. search needs)
+    (λ c κs. search needs)
     add-result
     returns-3
     returns-4)

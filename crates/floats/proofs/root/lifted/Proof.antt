@@ -22,9 +22,6 @@ cast-result c = omega (arith, lift-le (c .before .args .b) (omega arith) (omega 
 sub-result : tie.Need-sub-result
 sub-result c = omega (arith, lift-le (c .before .args .b) (omega arith) (omega arith))
 
-mul-result : tie.Need-mul-result
-mul-result c = search needs
-
 cast-result-2 : tie.Need-cast-result-2
 cast-result-2 c = omega (arith, lift-le (c .before .args .b) (omega arith) (omega arith))
 
@@ -46,9 +43,6 @@ returns c =
     let x : s ≤ 23 = omega (arith, lift-le b p l) in
     ((omega arith, omega arith), small-is b p l _ (split-is ((127 - s) * 2 ^ 23 + m) m (128 - s) (whole m s y z x) (power m s y z x)))
 
-add-result-2 : tie.Need-add-result-2
-add-result-2 c = search needs
-
 returns-2 : tie.Need-returns-2
 returns-2 c =
     let b : ℕ = c .before .args .b in
@@ -61,10 +55,10 @@ lifted-spec =
     sub-s
     cast-result
     sub-result
-    mul-result
+    (λ c. search needs)
     cast-result-2
     shl-result
     add-result
     returns
-    add-result-2
+    (λ c. search needs)
     returns-2)

@@ -7,18 +7,6 @@ use borrow.Author.Needs.{needs}
 use Rattle.floats.proofs.root.positive.Statement.{statement}
 use Rattle.floats.proofs.root.positive.Tie as tie
 
-add-nearest-root : tie.Need-add-nearest-root
-add-nearest-root c = search needs
-
-add-nearest-root-2 : tie.Need-add-nearest-root-2
-add-nearest-root-2 c = search needs
-
-shl-nearest-root : tie.Need-shl-nearest-root
-shl-nearest-root c = search needs
-
-guess-requires : tie.Need-guess-requires
-guess-requires c κs = search needs
-
 nearest-root-requires : tie.Need-nearest-root-requires
 nearest-root-requires c κs =
     let m : ℕ = c .before .args .t % 2 ^ 23 + 2 ^ 23 in
@@ -27,18 +15,6 @@ nearest-root-requires c κs =
     let l = scaled-lt m g (omega arith) (omega arith) in
     let h = scaled-ge m g (omega arith) (omega arith) in
     omega arith
-
-sub-result : tie.Need-sub-result
-sub-result c = search needs
-
-mul-result : tie.Need-mul-result
-mul-result c = search needs
-
-add-result : tie.Need-add-result
-add-result c = search needs
-
-cast-result : tie.Need-cast-result
-cast-result c = search needs
 
 returns : tie.Need-returns
 returns c =
@@ -52,13 +28,13 @@ pub positive-spec : {M : Type 1} → statement M
 positive-spec =
     tie.close
     (tie.spec
-    add-nearest-root
-    add-nearest-root-2
-    shl-nearest-root
-    guess-requires
+    (λ c. search needs)
+    (λ c. search needs)
+    (λ c. search needs)
+    (λ c κs. search needs)
     nearest-root-requires
-    sub-result
-    mul-result
-    add-result
-    cast-result
+    (λ c. search needs)
+    (λ c. search needs)
+    (λ c. search needs)
+    (λ c. search needs)
     returns)

@@ -21,9 +21,6 @@ returns c = zero-over-zero ∙ sym (ap (root binary32) (differs (c .before .args
 float-to-bits-root-bits : tie.Need-float-to-bits-root-bits
 float-to-bits-root-bits c = same-no-nan (c .before .args .x) (c .if1 .left)
 
-root-bits-requires : tie.Need-root-bits-requires
-root-bits-requires c κs = search needs
-
 returns-2 : tie.Need-returns-2
 returns-2 c = zero-over-zero ∙ sym (nan-of binary32 (root binary32 (c .before .before .before .args .x)) (root-fits binary32 (c .before .before .before .args .x) (held (c .before .before .before))) (sym (c .before .root-bits .ensures ∙ back (c .before .before .before .args .x) (held (c .before .before .before))) ∙ c .if2 .taken ∙ sym bits-nan))
 
@@ -39,7 +36,7 @@ square-root-spec =
     (tie.spec
     returns
     float-to-bits-root-bits
-    root-bits-requires
+    (λ c κs. search needs)
     returns-2
     float-from-bits-result
     returns-3)

@@ -15,23 +15,11 @@ bent x y d h k l =
     let b : x * 128 + y * d ≤ 2 ^ 39 + 2 ^ 35 = omega (arith, below (2 ^ 16) (2 ^ 19) y d k l) in
     mul-le-mul a b
 
-cast-bend : tie.Need-cast-bend
-cast-bend c = search needs
-
-mul-bend : tie.Need-mul-bend
-mul-bend c = search needs
-
-cast-bend-2 : tie.Need-cast-bend-2
-cast-bend-2 c = search needs
-
 mul-bend-2 : tie.Need-mul-bend-2
 mul-bend-2 c = let s = c .before .before .args in omega (arith, below (2 ^ 16) (2 ^ 19) (s .c .3) (s .d) (omega arith) (omega arith))
 
 add-bend : tie.Need-add-bend
 add-bend c = let s = c .before .before .args in omega (arith, below (2 ^ 16) (2 ^ 19) (s .c .3) (s .d) (omega arith) (omega arith))
-
-cast-less : tie.Need-cast-less
-cast-less c = search needs
 
 mul-less : tie.Need-mul-less
 mul-less c = let s = c .before .before .before .args in omega (arith, below (2 ^ 32) (2 ^ 19) (s .c .1) (s .d) (omega arith) (omega arith))
@@ -45,37 +33,25 @@ mul-less-3 c = let s = c .before .before .before .args in omega (arith, bent (s 
 add-less : tie.Need-add-less
 add-less c = let s = c .before .before .before .args in omega (arith, below (2 ^ 32) (2 ^ 19) (s .c .1) (s .d) (omega arith) (omega arith), bent (s .c .2) (s .c .3) (s .d) (omega arith) (omega arith) (omega arith))
 
-cast-result : tie.Need-cast-result
-cast-result c = search needs
-
-mul-result : tie.Need-mul-result
-mul-result c = search needs
-
-add-result : tie.Need-add-result
-add-result c = search needs
-
 sub-result : tie.Need-sub-result
 sub-result c = let s = c .before .before .before .before .args in omega (arith, below (2 ^ 32) (2 ^ 19) (s .c .1) (s .d) (omega arith) (omega arith), bent (s .c .2) (s .c .3) (s .d) (omega arith) (omega arith) (omega arith))
-
-returns : tie.Need-returns
-returns c = search needs
 
 pub value-spec : {M : Type 1} → statement M
 value-spec =
     tie.close
     (tie.spec
-    cast-bend
-    mul-bend
-    cast-bend-2
+    (λ c. search needs)
+    (λ c. search needs)
+    (λ c. search needs)
     mul-bend-2
     add-bend
-    cast-less
+    (λ c. search needs)
     mul-less
     mul-less-2
     mul-less-3
     add-less
-    cast-result
-    mul-result
-    add-result
+    (λ c. search needs)
+    (λ c. search needs)
+    (λ c. search needs)
     sub-result
-    returns)
+    (λ c. search needs))

@@ -2,28 +2,6 @@ use mathlib.Core.Path.{sym, _∙_}
 use borrow.Author.Needs.{needs}
 use Rattle.pdb_reader.proofs.faults.fault_of.Statement.{statement}
 use Rattle.pdb_reader.proofs.faults.fault_of.Tie as tie
-use Rattle.pdb_reader.proofs.faults.fault_of.Lts as lts
-
-enum-told : tie.Need-enum-told
-enum-told c = search needs
-
-enum-told-2 : tie.Need-enum-told-2
-enum-told-2 c = search needs
-
-enum-told-3 : tie.Need-enum-told-3
-enum-told-3 c = search needs
-
-enum-told-4 : tie.Need-enum-told-4
-enum-told-4 c = search needs
-
-enum-known-r : tie.Need-enum-known-r
-enum-known-r c = search needs
-
-is-present-requires : tie.Need-is-present-requires
-is-present-requires c κs = search needs
-
-is-present-requires-2 : tie.Need-is-present-requires-2
-is-present-requires-2 c κs = search needs
 
 returns : tie.Need-returns
 returns c = simp (c .before .before .before .before .before .r .given .1, sym (c .before .before .before .is-present .ensures) ∙ c .before .before .if1 .taken, sym (c .before .is-present2 .ensures) ∙ c .if2 .taken)
@@ -50,13 +28,13 @@ pub fault-of-spec : {M : Type 1} → statement M
 fault-of-spec =
     tie.close
     (tie.spec
-    enum-told
-    enum-told-2
-    enum-told-3
-    enum-told-4
-    enum-known-r
-    is-present-requires
-    is-present-requires-2
+    (λ c. search needs)
+    (λ c. search needs)
+    (λ c. search needs)
+    (λ c. search needs)
+    (λ c. search needs)
+    (λ c κs. search needs)
+    (λ c κs. search needs)
     returns
     returns-2
     returns-3

@@ -13,7 +13,6 @@ use Rattle.pdb_reader.proofs.AtFault.{keyed-same, fault-here, fault-on,
 use Rattle.pdb_reader.proofs.Wanted.{all-known}
 use Rattle.pdb_reader.proofs.faults.find_fault.Statement.{statement}
 use Rattle.pdb_reader.proofs.faults.find_fault.Tie as tie
-use Rattle.pdb_reader.proofs.faults.find_fault.Lts as lts
 
 abbrev Inv-loop : tie.InvT-loop
 Inv-loop s keys₀ links₀ count more own segments bits₀ n₀ at₀ seen₀ line₀ left₀ keys links bits n at seen line left = (at ≤ length s) × (line ≤ at + 1) × (faultIn s ≡ faults (atomsOf s) line (rest s at seen)) × (own ≡ ownFaults line (rest s at seen)) × (left ≡ ahead (rest s at seen)) × (Wanted keys links bits n (names (atomsOf s))) × (more ≡ false → (keys ≡ keys₀) × (links ≡ links₀) × (n ≡ count))
@@ -24,15 +23,6 @@ abbrev μ-loop : tie.MeasureT-loop
 loop-holds : tie.Need-loop-holds Inv-loop μ-loop
 loop-holds c = (omega arith, omega arith, refl, c .before .pre .1, c .before .pre .2, all-known _ _ _ _ _ (c .before .pre .0), λ m. (refl, refl, refl))
 
-step-requires : tie.Need-step-requires Inv-loop μ-loop
-step-requires c κs = search needs
-
-enum-known-next : tie.Need-enum-known-next Inv-loop μ-loop
-enum-known-next c = search needs
-
-enum-told : tie.Need-enum-told Inv-loop μ-loop
-enum-told c = search needs
-
 returns : tie.Need-returns Inv-loop μ-loop
 returns c = let e = stepped-done _ _ _ _ (c .before .before .step .ensures) (c .enum-told .given .1) in
     (none-left _ _ _ _ _ (c .before .before .before .before .loop .inv .2) (c .before .before .before .before .loop .inv .3) (no-ahead _ e), λ m. (c .before .before .before .before .loop .inv .6 m .0, c .before .before .before .before .loop .inv .6 m .1))
@@ -42,12 +32,6 @@ refresh-requires c κs = (c .before .before .before .before .before .before .bef
 
 fault-of-requires : tie.Need-fault-of-requires Inv-loop μ-loop
 fault-of-requires c κs = (c .before .before .before .refresh .ensures .0, λ m. let E = c .before .before .before .refresh .ensures .1 m in let I = c .before .before .before .before .before .before .before .before .before .before .before .before .loop .inv .6 m in keyed-same _ _ _ _ _ (c .before .before .before .before .before .before .before .before .before .before .before .before .before .before .pre .0 .all m) (E .0 ∙ I .0) (E .2 ∙ I .2))
-
-is-clean-requires : tie.Need-is-clean-requires Inv-loop μ-loop
-is-clean-requires c κs = search needs
-
-count-segment-requires : tie.Need-count-segment-requires Inv-loop μ-loop
-count-segment-requires c κs = search needs
 
 sub-left : tie.Need-sub-left Inv-loop μ-loop
 sub-left c = let o = stepped-got _ _ _ _ _ _ _ (c .before .before .before .before .before .before .before .before .before .before .before .before .before .before .step .ensures) (c .before .before .before .before .before .before .before .before .before .before .before .before .next .given .1) in
@@ -81,14 +65,14 @@ find-fault-spec =
     Inv-loop
     μ-loop
     loop-holds
-    step-requires
-    enum-known-next
-    enum-told
+    (λ c κs. search needs)
+    (λ c. search needs)
+    (λ c. search needs)
     returns
     refresh-requires
     fault-of-requires
-    is-clean-requires
-    count-segment-requires
+    (λ c κs. search needs)
+    (λ c κs. search needs)
     sub-left
     add-line
     loop-less

@@ -5,24 +5,6 @@ use borrow.Author.Needs.{needs}
 use Rattle.pdb_reader.proofs.past.note_atom.Statement.{statement}
 use Rattle.pdb_reader.proofs.past.note_atom.Tie as tie
 
-enum-known-r : tie.Need-enum-known-r
-enum-known-r c = search needs
-
-note-name-requires : tie.Need-note-name-requires
-note-name-requires c κs = search needs
-
-enum-told : tie.Need-enum-told
-enum-told c = search needs
-
-enum-told-2 : tie.Need-enum-told-2
-enum-told-2 c = search needs
-
-enum-told-3 : tie.Need-enum-told-3
-enum-told-3 c = search needs
-
-enum-told-4 : tie.Need-enum-told-4
-enum-told-4 c = search needs
-
 returns : tie.Need-returns
 returns c = λ l W. noted-atom _ _ _ _ l _ _ (ap atomsIn (c .before .before .before .r .given .1)) (c .note-name .ensures (names l) W)
 
@@ -42,12 +24,12 @@ pub note-atom-spec : {M : Type 1} → statement M
 note-atom-spec =
     tie.close
     (tie.spec
-    enum-known-r
-    note-name-requires
-    enum-told
-    enum-told-2
-    enum-told-3
-    enum-told-4
+    (λ c. search needs)
+    (λ c κs. search needs)
+    (λ c. search needs)
+    (λ c. search needs)
+    (λ c. search needs)
+    (λ c. search needs)
     returns
     returns-2
     returns-3

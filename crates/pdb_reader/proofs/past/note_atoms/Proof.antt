@@ -19,12 +19,6 @@ loop-holds c = noting-start _ _ _ _ _ (c .before .pre)
 step-requires : tie.Need-step-requires Inv-loop μ-loop
 step-requires c κs = c .loop .inv .inside
 
-enum-known-next : tie.Need-enum-known-next Inv-loop μ-loop
-enum-known-next c = search needs
-
-enum-told : tie.Need-enum-told Inv-loop μ-loop
-enum-told c = search needs
-
 returns : tie.Need-returns Inv-loop μ-loop
 returns c = noting-over _ _ _ _ _ _ _ (c .before .before .before .loop .inv) (stepped-done _ _ _ _ (c .before .before .step .ensures) (c .enum-told .given .1))
 
@@ -47,8 +41,8 @@ note-atoms-spec =
     μ-loop
     loop-holds
     step-requires
-    enum-known-next
-    enum-told
+    (λ c. search needs)
+    (λ c. search needs)
     returns
     note-atom-requires
     loop-less

@@ -4,15 +4,6 @@ use borrow.Author.Needs.{needs}
 use Rattle.pdb_reader.proofs.past.refresh.Statement.{statement}
 use Rattle.pdb_reader.proofs.past.refresh.Tie as tie
 
-serves-requires : tie.Need-serves-requires
-serves-requires c κs = search needs
-
-returns : tie.Need-returns
-returns c = search needs
-
-forget-requires : tie.Need-forget-requires
-forget-requires c κs = search needs
-
 gather-requires : tie.Need-gather-requires
 gather-requires c κs = (c .before .before .before .before .before .before .before .before .before .pre .0, c .before .before .forget .ensures _ (c .before .before .before .before .before .before .before .before .before .pre .1 .index .keys-size))
 
@@ -26,9 +17,9 @@ pub refresh-spec : {M : Type 1} → statement M
 refresh-spec =
     tie.close
     (tie.spec
-    serves-requires
-    returns
-    forget-requires
+    (λ c κs. search needs)
+    (λ c. search needs)
+    (λ c κs. search needs)
     gather-requires
     note-atoms-requires
     returns-2)

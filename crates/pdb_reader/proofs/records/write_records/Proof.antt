@@ -19,12 +19,6 @@ loop-holds c = writing-start _ _ _ _ (omega arith) (c .before .before .pre .2) (
 step-requires : tie.Need-step-requires Inv-loop μ-loop
 step-requires c κs = c .loop .inv .inside
 
-enum-known-next : tie.Need-enum-known-next Inv-loop μ-loop
-enum-known-next c = search needs
-
-enum-told : tie.Need-enum-told Inv-loop μ-loop
-enum-told c = search needs
-
 same-length : tie.Need-same-length Inv-loop μ-loop
 same-length c = c .before .before .before .loop .inv .same
 
@@ -51,8 +45,8 @@ write-records-spec =
     μ-loop
     loop-holds
     step-requires
-    enum-known-next
-    enum-told
+    (λ c. search needs)
+    (λ c. search needs)
     same-length
     returns
     write-record-requires

@@ -20,36 +20,6 @@ loop-holds : tie.Need-loop-holds Inv-loop μ-loop
 unfolding put upto
 loop-holds c = (omega arith, refl, refl)
 
-mul-s : tie.Need-mul-s Inv-loop μ-loop
-mul-s c = search needs
-
-array-copy-out-s : tie.Need-array-copy-out-s Inv-loop μ-loop
-array-copy-out-s c = search needs
-
-point-on-requires : tie.Need-point-on-requires Inv-loop μ-loop
-point-on-requires c κs = search needs
-
-mul-positions : tie.Need-mul-positions Inv-loop μ-loop
-mul-positions c = search needs
-
-array-set-from-positions : tie.Need-array-set-from-positions Inv-loop μ-loop
-array-set-from-positions c = search needs
-
-normal-on-requires : tie.Need-normal-on-requires Inv-loop μ-loop
-normal-on-requires c κs = search needs
-
-mul-normals : tie.Need-mul-normals Inv-loop μ-loop
-mul-normals c = search needs
-
-array-set-from-normals : tie.Need-array-set-from-normals Inv-loop μ-loop
-array-set-from-normals c = search needs
-
-add-k : tie.Need-add-k Inv-loop μ-loop
-add-k c = search needs
-
-loop-less : tie.Need-loop-less Inv-loop μ-loop
-loop-less c = search needs
-
 loop-again : tie.Need-loop-again Inv-loop μ-loop
 loop-again c = let i = c .before .before .before .before .loop .inv in
     let k = c .before .before .before .before .loop .k in
@@ -67,15 +37,15 @@ ring-over-spec =
     Inv-loop
     μ-loop
     loop-holds
-    mul-s
-    array-copy-out-s
-    point-on-requires
-    mul-positions
-    array-set-from-positions
-    normal-on-requires
-    mul-normals
-    array-set-from-normals
-    add-k
-    loop-less
+    (λ c. search needs)
+    (λ c. search needs)
+    (λ c κs. search needs)
+    (λ c. search needs)
+    (λ c. search needs)
+    (λ c κs. search needs)
+    (λ c. search needs)
+    (λ c. search needs)
+    (λ c. search needs)
+    (λ c. search needs)
     loop-again
     returns)

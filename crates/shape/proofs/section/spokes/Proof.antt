@@ -15,27 +15,9 @@ Inv-loop p out₀ k₀ out k = (k ≤ 8) × (out ≡ put out₀ 0 (upto (λ (j :
 abbrev μ-loop : tie.MeasureT-loop
 μ-loop p out₀ k₀ out k = 8 - k
 
-spoke-requires : tie.Need-spoke-requires Inv-loop μ-loop
-spoke-requires c κs = search needs
-
 loop-holds : tie.Need-loop-holds Inv-loop μ-loop
 unfolding put upto
 loop-holds c = (omega arith, refl)
-
-spoke-requires-2 : tie.Need-spoke-requires-2 Inv-loop μ-loop
-spoke-requires-2 c κs = search needs
-
-mul-out : tie.Need-mul-out Inv-loop μ-loop
-mul-out c = search needs
-
-array-set-from-out : tie.Need-array-set-from-out Inv-loop μ-loop
-array-set-from-out c = search needs
-
-add-k : tie.Need-add-k Inv-loop μ-loop
-add-k c = search needs
-
-loop-less : tie.Need-loop-less Inv-loop μ-loop
-loop-less c = search needs
 
 loop-again : tie.Need-loop-again Inv-loop μ-loop
 loop-again c = let k = c .before .before .loop .k in
@@ -52,12 +34,12 @@ spokes-spec =
     (tie.spec
     Inv-loop
     μ-loop
-    spoke-requires
+    (λ c κs. search needs)
     loop-holds
-    spoke-requires-2
-    mul-out
-    array-set-from-out
-    add-k
-    loop-less
+    (λ c κs. search needs)
+    (λ c. search needs)
+    (λ c. search needs)
+    (λ c. search needs)
+    (λ c. search needs)
     loop-again
     returns)

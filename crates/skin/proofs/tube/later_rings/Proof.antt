@@ -17,24 +17,9 @@ Inv-loop points guides positions₀ normals₀ tags₀ n kind v first spokes tot
 abbrev μ-loop : tie.MeasureT-loop
 μ-loop points guides positions₀ normals₀ tags₀ n kind v first spokes total s₀ at₀ positions normals tags s at = total - s
 
-sub-total : tie.Need-sub-total Inv-loop μ-loop
-sub-total c = search needs
-
-mul-total : tie.Need-mul-total Inv-loop μ-loop
-mul-total c = search needs
-
-sub-total-2 : tie.Need-sub-total-2 Inv-loop μ-loop
-sub-total-2 c = search needs
-
 loop-holds : tie.Need-loop-holds Inv-loop μ-loop
 unfolding put upto
 loop-holds c = (omega arith, omega arith, record { pos = refl; norm = refl; tag = refl })
-
-add-from : tie.Need-add-from Inv-loop μ-loop
-add-from c = search needs
-
-sub-count : tie.Need-sub-count Inv-loop μ-loop
-sub-count c = search needs
 
 span-rings-requires : tie.Need-span-rings-requires Inv-loop μ-loop
 span-rings-requires c κs = ((c .before .before .before .before .before .before .before .before .before .before .pre .0, room _ _ _ _ _ (c .before .before .before .before .loop .inv .2) (c .before .before .before .before .before .before .before .before .before .before .pre .1) (c .before .before .before .before .loop .at + 8 * (8 - (c .before .before .before .before .loop .s + 1) % 8)) (omega arith)), (omega arith, omega arith))
@@ -80,12 +65,12 @@ later-rings-spec =
     (tie.spec
     Inv-loop
     μ-loop
-    sub-total
-    mul-total
-    sub-total-2
+    (λ c. search needs)
+    (λ c. search needs)
+    (λ c. search needs)
     loop-holds
-    add-from
-    sub-count
+    (λ c. search needs)
+    (λ c. search needs)
     span-rings-requires
     add-s
     mul-at

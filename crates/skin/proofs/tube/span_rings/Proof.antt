@@ -18,33 +18,9 @@ Inv-loop points guides positions₀ normals₀ tags₀ n kind v first spokes fro
 abbrev μ-loop : tie.MeasureT-loop
 μ-loop points guides positions₀ normals₀ tags₀ n kind v first spokes from count i q a b j₀ at₀ positions normals tags j at = count - j
 
-span-requires : tie.Need-span-requires Inv-loop μ-loop
-span-requires c κs = search needs
-
-get-vec-requires : tie.Need-get-vec-requires Inv-loop μ-loop
-get-vec-requires c κs = search needs
-
-add-get-vec : tie.Need-add-get-vec Inv-loop μ-loop
-add-get-vec c = search needs
-
-get-vec-requires-2 : tie.Need-get-vec-requires-2 Inv-loop μ-loop
-get-vec-requires-2 c κs = search needs
-
 loop-holds : tie.Need-loop-holds Inv-loop μ-loop
 unfolding put upto
 loop-holds c = (omega arith, omega arith, record { pos = refl; norm = refl; tag = refl })
-
-add-s : tie.Need-add-s Inv-loop μ-loop
-add-s c = search needs
-
-param-at-requires : tie.Need-param-at-requires Inv-loop μ-loop
-param-at-requires c κs = search needs
-
-between-requires : tie.Need-between-requires Inv-loop μ-loop
-between-requires c κs = search needs
-
-frame-requires : tie.Need-frame-requires Inv-loop μ-loop
-frame-requires c κs = search needs
 
 ring-requires : tie.Need-ring-requires Inv-loop μ-loop
 ring-requires c κs = (c .before .before .before .before .before .before .before .before .before .before .before .before .before .pre .0 .0 .two, c .before .before .before .before .before .before .before .before .before .before .before .before .before .pre .0 .0 .most, omega (arith, c .before .before .before .before .loop, c .before .before .before .loop-test, c .before .before .before .before .before .before .before .before .before .before .before .before .before), c .before .before .before .before .before .before .before .before .before .before .before .before .before .pre .0 .0 .same)
@@ -92,15 +68,15 @@ span-rings-spec =
     (tie.spec
     Inv-loop
     μ-loop
-    span-requires
-    get-vec-requires
-    add-get-vec
-    get-vec-requires-2
+    (λ c κs. search needs)
+    (λ c κs. search needs)
+    (λ c. search needs)
+    (λ c κs. search needs)
     loop-holds
-    add-s
-    param-at-requires
-    between-requires
-    frame-requires
+    (λ c. search needs)
+    (λ c κs. search needs)
+    (λ c κs. search needs)
+    (λ c κs. search needs)
     ring-requires
     tag-at-requires
     put-ring-requires

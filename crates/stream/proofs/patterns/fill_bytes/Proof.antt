@@ -8,8 +8,6 @@ use Rattle.buffers.proofs.Puts.{set-turn, kept}
 use Rattle.stream.specs.Patterns.{bytePattern}
 use Rattle.stream.proofs.patterns.fill_bytes.Statement.{statement}
 use Rattle.stream.proofs.patterns.fill_bytes.Tie as tie
-use Rattle.stream.proofs.patterns.fill_bytes.Reads as reads
-use Rattle.stream.proofs.patterns.fill_bytes.Lts as lts
 
 abbrev Inv-loop : tie.InvT-loop
 Inv-loop b₀ i₀ b i = (i ≤ length b₀) × (b ≡ put b₀ 0 (upto (λ (k : ℕ). bytePattern k ∷ []) i))
@@ -17,40 +15,31 @@ Inv-loop b₀ i₀ b i = (i ≤ length b₀) × (b ≡ put b₀ 0 (upto (λ (k :
 abbrev μ-loop : tie.MeasureT-loop
 μ-loop b₀ i₀ b i = length b₀ - i
 
--- src/patterns.rt:22:5
 loop-holds : tie.Need-loop-holds Inv-loop μ-loop
 unfolding put upto
 loop-holds c = (omega arith, refl)
 
--- src/patterns.rt:23:18
 add-b : tie.Need-add-b Inv-loop μ-loop
 add-b c = omega (arith, kept _ _ _ (c .before .loop .inv .1))
 
--- src/patterns.rt:23:16
 cast-b : tie.Need-cast-b Inv-loop μ-loop
 cast-b c = omega arith
 
--- src/patterns.rt:23:9
 slice-write-b : tie.Need-slice-write-b Inv-loop μ-loop
 slice-write-b c = omega (arith, kept _ _ _ (c .before .loop .inv .1))
 
--- src/patterns.rt:24:9
 add-i : tie.Need-add-i Inv-loop μ-loop
 add-i c = omega (arith, kept _ _ _ (c .before .loop .inv .1))
 
--- src/patterns.rt:22:5
 loop-less : tie.Need-loop-less Inv-loop μ-loop
 loop-less c = omega (arith, kept _ _ _ (c .before .loop .inv .1))
 
--- src/patterns.rt:22:5
 loop-again : tie.Need-loop-again Inv-loop μ-loop
 loop-again c = (omega (arith, kept _ _ _ (c .before .loop .inv .1)), set-turn bytePattern _ 0 _ _ (c .before .loop .inv .1) refl (omega arith))
 
--- src/patterns.rt:18:1
 same-length : tie.Need-same-length Inv-loop μ-loop
 same-length c = kept _ _ _ (c .before .loop .inv .1)
 
--- src/patterns.rt:18:1
 returns : tie.Need-returns Inv-loop μ-loop
 returns c = let e : c .before .loop .i ≡ length (c .before .before .args .b .now) = omega (arith, kept _ _ _ (c .before .loop .inv .1)) in c .before .loop .inv .1 ∙ rw e
 

@@ -6,11 +6,9 @@ use lib.ListN.{length}
 use native.Mathlib.Omega.{arith}
 use Rattle.buffers.specs.Put.{put, upto}
 use Rattle.buffers.proofs.Puts.{set-turn, kept}
-use Rattle.stream.specs.Patterns.{wordPattern, floatPattern}
+use Rattle.stream.specs.Patterns.{floatPattern}
 use Rattle.stream.proofs.patterns.fill_floats.Statement.{statement}
 use Rattle.stream.proofs.patterns.fill_floats.Tie as tie
-use Rattle.stream.proofs.patterns.fill_floats.Reads as reads
-use Rattle.stream.proofs.patterns.fill_floats.Lts as lts
 
 abbrev Inv-loop : tie.InvT-loop
 Inv-loop f₀ i₀ f i = (i ≤ length f₀) × (f ≡ put f₀ 0 (upto (λ (k : ℕ). floatPattern k ∷ []) i))
@@ -18,48 +16,37 @@ Inv-loop f₀ i₀ f i = (i ≤ length f₀) × (f ≡ put f₀ 0 (upto (λ (k :
 abbrev μ-loop : tie.MeasureT-loop
 μ-loop f₀ i₀ f i = length f₀ - i
 
--- src/patterns.rt:22:5
 loop-holds : tie.Need-loop-holds Inv-loop μ-loop
 unfolding put upto
 loop-holds c = (omega arith, refl)
 
--- src/patterns.rt:23:45
 cast-f : tie.Need-cast-f Inv-loop μ-loop
 cast-f c = omega arith
 
--- src/patterns.rt:23:31
 add-f : tie.Need-add-f Inv-loop μ-loop
 add-f c = omega arith
 
--- src/patterns.rt:23:16
 float-from-bits-f : tie.Need-float-from-bits-f Inv-loop μ-loop
 float-from-bits-f c = pattern-no-nan (c .before .loop .i)
 
--- src/patterns.rt:23:9
 mul-f : tie.Need-mul-f Inv-loop μ-loop
 mul-f c = omega (arith, kept _ _ _ (c .before .loop .inv .1))
 
--- src/patterns.rt:23:9
 slice-write-f : tie.Need-slice-write-f Inv-loop μ-loop
 slice-write-f c = omega (arith, kept _ _ _ (c .before .loop .inv .1))
 
--- src/patterns.rt:24:9
 add-i : tie.Need-add-i Inv-loop μ-loop
 add-i c = omega (arith, kept _ _ _ (c .before .loop .inv .1))
 
--- src/patterns.rt:22:5
 loop-less : tie.Need-loop-less Inv-loop μ-loop
 loop-less c = omega (arith, kept _ _ _ (c .before .loop .inv .1))
 
--- src/patterns.rt:22:5
 loop-again : tie.Need-loop-again Inv-loop μ-loop
 loop-again c = (omega (arith, kept _ _ _ (c .before .loop .inv .1)), set-turn floatPattern _ 0 _ _ (c .before .loop .inv .1) refl (omega arith))
 
--- src/patterns.rt:18:1
 same-length : tie.Need-same-length Inv-loop μ-loop
 same-length c = kept _ _ _ (c .before .loop .inv .1)
 
--- src/patterns.rt:18:1
 returns : tie.Need-returns Inv-loop μ-loop
 returns c = let e : c .before .loop .i ≡ length (c .before .before .args .f .now) = omega (arith, kept _ _ _ (c .before .loop .inv .1)) in c .before .loop .inv .1 ∙ rw e
 

@@ -5,11 +5,9 @@ use lib.ListN.{length}
 use native.Mathlib.Omega.{arith}
 use Rattle.buffers.specs.Put.{put, upto}
 use Rattle.buffers.proofs.Puts.{set-turn, kept}
-use Rattle.stream.specs.Patterns.{wordPattern, floatPattern}
+use Rattle.stream.specs.Patterns.{wordPattern}
 use Rattle.stream.proofs.patterns.fill_words.Statement.{statement}
 use Rattle.stream.proofs.patterns.fill_words.Tie as tie
-use Rattle.stream.proofs.patterns.fill_words.Reads as reads
-use Rattle.stream.proofs.patterns.fill_words.Lts as lts
 
 abbrev Inv-loop : tie.InvT-loop
 Inv-loop w₀ i₀ w i = (i ≤ length w₀) × (w ≡ put w₀ 0 (upto (λ (k : ℕ). wordPattern k ∷ []) i))
@@ -17,44 +15,34 @@ Inv-loop w₀ i₀ w i = (i ≤ length w₀) × (w ≡ put w₀ 0 (upto (λ (k :
 abbrev μ-loop : tie.MeasureT-loop
 μ-loop w₀ i₀ w i = length w₀ - i
 
--- src/patterns.rt:12:5
 loop-holds : tie.Need-loop-holds Inv-loop μ-loop
 unfolding put upto
 loop-holds c = (omega arith, refl)
 
--- src/patterns.rt:13:30
 cast-w : tie.Need-cast-w Inv-loop μ-loop
 cast-w c = omega arith
 
--- src/patterns.rt:13:16
 add-w : tie.Need-add-w Inv-loop μ-loop
 add-w c = omega arith
 
--- src/patterns.rt:13:9
 mul-w : tie.Need-mul-w Inv-loop μ-loop
 mul-w c = omega (arith, kept _ _ _ (c .before .loop .inv .1))
 
--- src/patterns.rt:13:9
 slice-write-w : tie.Need-slice-write-w Inv-loop μ-loop
 slice-write-w c = omega (arith, kept _ _ _ (c .before .loop .inv .1))
 
--- src/patterns.rt:14:9
 add-i : tie.Need-add-i Inv-loop μ-loop
 add-i c = omega (arith, kept _ _ _ (c .before .loop .inv .1))
 
--- src/patterns.rt:12:5
 loop-less : tie.Need-loop-less Inv-loop μ-loop
 loop-less c = omega (arith, kept _ _ _ (c .before .loop .inv .1))
 
--- src/patterns.rt:12:5
 loop-again : tie.Need-loop-again Inv-loop μ-loop
 loop-again c = (omega (arith, kept _ _ _ (c .before .loop .inv .1)), set-turn wordPattern _ 0 _ _ (c .before .loop .inv .1) refl (omega arith))
 
--- src/patterns.rt:8:1
 same-length : tie.Need-same-length Inv-loop μ-loop
 same-length c = kept _ _ _ (c .before .loop .inv .1)
 
--- src/patterns.rt:8:1
 returns : tie.Need-returns Inv-loop μ-loop
 returns c = let e : c .before .loop .i ≡ length (c .before .before .args .w .now) = omega (arith, kept _ _ _ (c .before .loop .inv .1)) in c .before .loop .inv .1 ∙ rw e
 

@@ -1,46 +1,33 @@
 use native.Mathlib.Omega.{arith}
-use mathlib.Core.Path.{_≡_, refl}
-use mathlib.Core.Bool.{Bool, true, false}
-use Rattle.stream.specs.Requests.{Within}
+use mathlib.Core.Path.{refl}
 use Rattle.stream.proofs.Laws.{not-so}
 use Rattle.stream.proofs.requests.is_within.Statement.{statement}
 use Rattle.stream.proofs.requests.is_within.Tie as tie
-use Rattle.stream.proofs.requests.is_within.Reads as reads
-use Rattle.stream.proofs.requests.is_within.Lts as lts
 
--- src/requests.rt:54:9
 returns : tie.Need-returns
 returns c = not-so (λ w. omega (arith, c .if1 .taken, w .positions))
 
--- src/requests.rt:57:9
 returns-2 : tie.Need-returns-2
 returns-2 c = not-so (λ w. omega (arith, c .if2 .taken, w .normals))
 
--- src/requests.rt:60:9
 returns-3 : tie.Need-returns-3
 returns-3 c = not-so (λ w. omega (arith, c .if3 .taken, w .tags))
 
--- src/requests.rt:63:9
 returns-4 : tie.Need-returns-4
 returns-4 c = not-so (λ w. omega (arith, c .if4 .taken, w .triangles))
 
--- src/requests.rt:66:9
 returns-5 : tie.Need-returns-5
 returns-5 c = not-so (λ w. omega (arith, c .if5 .taken, w .tubes))
 
--- src/requests.rt:69:9
 returns-6 : tie.Need-returns-6
 returns-6 c = not-so (λ w. omega (arith, c .if6 .taken, w .boxes))
 
--- src/requests.rt:72:9
 returns-7 : tie.Need-returns-7
 returns-7 c = not-so (λ w. omega (arith, c .if7 .taken, w .words))
 
--- src/requests.rt:75:9
 returns-8 : tie.Need-returns-8
 returns-8 c = not-so (λ w. omega (arith, c .if8 .taken, w .floats))
 
--- src/requests.rt:50:1
 returns-9 : tie.Need-returns-9
 returns-9 c = (λ e. record { positions = omega (arith, c .before .before .before .before .before .before .before .before .before .before .before .before .before .before .before .before .before .before .before .before .before .if1 .left); normals = omega (arith, c .before .before .before .before .before .before .before .before .before .before .before .before .before .before .before .before .before .before .if2 .left); tags = omega (arith, c .before .before .before .before .before .before .before .before .before .before .before .before .before .before .before .if3 .left); triangles = omega (arith, c .before .before .before .before .before .before .before .before .before .before .before .before .if4 .left); tubes = omega (arith, c .before .before .before .before .before .before .before .before .before .if5 .left); boxes = omega (arith, c .before .before .before .before .before .before .if6 .left); words = omega (arith, c .before .before .before .if7 .left); floats = omega (arith, c .if8 .left) }, λ w. refl)
 

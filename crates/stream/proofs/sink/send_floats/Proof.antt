@@ -1,17 +1,12 @@
-use Prim.Native.Nat.{ℕ, _≤_, _-_, _*_, _+_}
+use Prim.Native.Nat.{_≤_, _-_}
 use mathlib.Core.Path.{_≡_, refl, _∙_}
-use lib.ListN.{length, take, drop, length-take, length-drop}
+use lib.ListN.{length, length-take, length-drop}
 use native.Mathlib.Omega.{arith}
 use borrow.Author.Needs.{needs}
 use Rattle.buffers.proofs.Puts.{kept}
 use Rattle.stream.specs.Sinks.{Ready}
 use Rattle.stream.proofs.sink.send_floats.Statement.{statement}
 use Rattle.stream.proofs.sink.send_floats.Tie as tie
-use Rattle.stream.proofs.sink.send_floats.Reads as reads
-use Rattle.stream.proofs.sink.send_floats.Lts as lts
-use Rattle.stream.proofs.sink.advance.Reads as advance-reads
-use Rattle.stream.proofs.sink.least.Reads as least-reads
-use Rattle.stream.proofs.words.put_floats.Reads as put-floats-reads
 
 abbrev Inv-loop : tie.InvT-loop
 Inv-loop out₀ f t₀ i₀ out t i = (i ≤ length f) × (length out ≡ length out₀) × Ready t (length out₀)
@@ -19,67 +14,45 @@ Inv-loop out₀ f t₀ i₀ out t i = (i ≤ length f) × (length out ≡ length
 abbrev μ-loop : tie.MeasureT-loop
 μ-loop out₀ f t₀ i₀ out t i = length f - i
 
--- src/sink.rt:115:5
 loop-holds : tie.Need-loop-holds Inv-loop μ-loop
 loop-holds c = (omega arith, refl, c .before .before .pre)
 
--- src/sink.rt:117:24
 sub-least : tie.Need-sub-least Inv-loop μ-loop
 sub-least c = omega arith
 
--- src/sink.rt:117:45
 sub-least-2 : tie.Need-sub-least-2 Inv-loop μ-loop
 sub-least-2 c = omega arith
 
--- src/sink.rt:117:13
 least-requires : tie.Need-least-requires Inv-loop μ-loop
 least-requires c κs = tt
 
--- src/sink.rt:118:19
 add-end : tie.Need-add-end Inv-loop μ-loop
 add-end c = omega arith
 
--- src/sink.rt:119:29
 mul-put-floats : tie.Need-mul-put-floats Inv-loop μ-loop
 mul-put-floats c = omega arith
 
--- src/sink.rt:119:29
 sub-put-floats : tie.Need-sub-put-floats Inv-loop μ-loop
 sub-put-floats c = omega arith
 
--- src/sink.rt:119:29
-part-put-floats-start : tie.Need-part-put-floats-start Inv-loop μ-loop
-part-put-floats-start c = search needs
-
--- src/sink.rt:119:29
-part-put-floats-end : tie.Need-part-put-floats-end Inv-loop μ-loop
-part-put-floats-end c = search needs
-
--- src/sink.rt:119:9
 put-floats-requires : tie.Need-put-floats-requires Inv-loop μ-loop
 put-floats-requires c κs = simp (length-take, length-drop) (omega arith)
 
--- src/sink.rt:120:29
 mul-advance : tie.Need-mul-advance Inv-loop μ-loop
 mul-advance c = omega arith
 
--- src/sink.rt:120:9
 advance-requires : tie.Need-advance-requires Inv-loop μ-loop
 advance-requires c κs = (omega (arith, kept _ _ _ (c .before .before .before .put-floats .ensures)), omega (arith, kept _ _ _ (c .before .before .before .put-floats .ensures)))
 
--- src/sink.rt:115:5
 loop-less : tie.Need-loop-less Inv-loop μ-loop
 loop-less c = omega arith
 
--- src/sink.rt:115:5
 loop-again : tie.Need-loop-again Inv-loop μ-loop
 loop-again c = (omega arith, kept _ _ _ (c .before .before .before .before .put-floats .ensures) ∙ c .before .before .before .before .before .before .before .before .before .loop .inv .1, omega (arith, kept _ _ _ (c .before .before .before .before .put-floats .ensures), c .advance .ensures))
 
--- src/sink.rt:109:1
 same-length : tie.Need-same-length Inv-loop μ-loop
 same-length c = c .before .loop .inv .1
 
--- src/sink.rt:109:1
 returns : tie.Need-returns Inv-loop μ-loop
 returns c = c .before .loop .inv .2
 
@@ -96,8 +69,8 @@ send-floats-spec =
     add-end
     mul-put-floats
     sub-put-floats
-    part-put-floats-start
-    part-put-floats-end
+    (λ c. search needs)
+    (λ c. search needs)
     put-floats-requires
     mul-advance
     advance-requires

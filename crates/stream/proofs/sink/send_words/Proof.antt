@@ -1,17 +1,12 @@
-use Prim.Native.Nat.{ℕ, _≤_, _-_, _*_, _+_}
+use Prim.Native.Nat.{_≤_, _-_}
 use mathlib.Core.Path.{_≡_, refl, _∙_}
-use lib.ListN.{length, take, drop, length-take, length-drop}
+use lib.ListN.{length, length-take, length-drop}
 use native.Mathlib.Omega.{arith}
 use borrow.Author.Needs.{needs}
 use Rattle.buffers.proofs.Puts.{kept}
 use Rattle.stream.specs.Sinks.{Ready}
 use Rattle.stream.proofs.sink.send_words.Statement.{statement}
 use Rattle.stream.proofs.sink.send_words.Tie as tie
-use Rattle.stream.proofs.sink.send_words.Reads as reads
-use Rattle.stream.proofs.sink.send_words.Lts as lts
-use Rattle.stream.proofs.sink.advance.Reads as advance-reads
-use Rattle.stream.proofs.sink.least.Reads as least-reads
-use Rattle.stream.proofs.words.put_words.Reads as put-words-reads
 
 abbrev Inv-loop : tie.InvT-loop
 Inv-loop out₀ w t₀ i₀ out t i = (i ≤ length w) × (length out ≡ length out₀) × Ready t (length out₀)
@@ -19,67 +14,45 @@ Inv-loop out₀ w t₀ i₀ out t i = (i ≤ length w) × (length out ≡ length
 abbrev μ-loop : tie.MeasureT-loop
 μ-loop out₀ w t₀ i₀ out t i = length w - i
 
--- src/sink.rt:98:5
 loop-holds : tie.Need-loop-holds Inv-loop μ-loop
 loop-holds c = (omega arith, refl, c .before .before .pre)
 
--- src/sink.rt:100:24
 sub-least : tie.Need-sub-least Inv-loop μ-loop
 sub-least c = omega arith
 
--- src/sink.rt:100:45
 sub-least-2 : tie.Need-sub-least-2 Inv-loop μ-loop
 sub-least-2 c = omega arith
 
--- src/sink.rt:100:13
 least-requires : tie.Need-least-requires Inv-loop μ-loop
 least-requires c κs = tt
 
--- src/sink.rt:101:19
 add-end : tie.Need-add-end Inv-loop μ-loop
 add-end c = omega arith
 
--- src/sink.rt:102:28
 mul-put-words : tie.Need-mul-put-words Inv-loop μ-loop
 mul-put-words c = omega arith
 
--- src/sink.rt:102:28
 sub-put-words : tie.Need-sub-put-words Inv-loop μ-loop
 sub-put-words c = omega arith
 
--- src/sink.rt:102:28
-part-put-words-start : tie.Need-part-put-words-start Inv-loop μ-loop
-part-put-words-start c = search needs
-
--- src/sink.rt:102:28
-part-put-words-end : tie.Need-part-put-words-end Inv-loop μ-loop
-part-put-words-end c = search needs
-
--- src/sink.rt:102:9
 put-words-requires : tie.Need-put-words-requires Inv-loop μ-loop
 put-words-requires c κs = simp (length-take, length-drop) (omega arith)
 
--- src/sink.rt:103:29
 mul-advance : tie.Need-mul-advance Inv-loop μ-loop
 mul-advance c = omega arith
 
--- src/sink.rt:103:9
 advance-requires : tie.Need-advance-requires Inv-loop μ-loop
 advance-requires c κs = (omega (arith, kept _ _ _ (c .before .before .before .put-words .ensures)), omega (arith, kept _ _ _ (c .before .before .before .put-words .ensures)))
 
--- src/sink.rt:98:5
 loop-less : tie.Need-loop-less Inv-loop μ-loop
 loop-less c = omega arith
 
--- src/sink.rt:98:5
 loop-again : tie.Need-loop-again Inv-loop μ-loop
 loop-again c = (omega arith, kept _ _ _ (c .before .before .before .before .put-words .ensures) ∙ c .before .before .before .before .before .before .before .before .before .loop .inv .1, omega (arith, kept _ _ _ (c .before .before .before .before .put-words .ensures), c .advance .ensures))
 
--- src/sink.rt:92:1
 same-length : tie.Need-same-length Inv-loop μ-loop
 same-length c = c .before .loop .inv .1
 
--- src/sink.rt:92:1
 returns : tie.Need-returns Inv-loop μ-loop
 returns c = c .before .loop .inv .2
 
@@ -96,8 +69,8 @@ send-words-spec =
     add-end
     mul-put-words
     sub-put-words
-    part-put-words-start
-    part-put-words-end
+    (λ c. search needs)
+    (λ c. search needs)
     put-words-requires
     mul-advance
     advance-requires

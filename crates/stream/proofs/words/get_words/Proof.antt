@@ -8,9 +8,6 @@ use Rattle.buffers.proofs.Puts.{set-turn, kept}
 use Rattle.job.specs.Bytes.{u32At}
 use Rattle.stream.proofs.words.get_words.Statement.{statement}
 use Rattle.stream.proofs.words.get_words.Tie as tie
-use Rattle.stream.proofs.words.get_words.Reads as reads
-use Rattle.stream.proofs.words.get_words.Lts as lts
-use Rattle.job.proofs.u32_at.Reads as u32-at-reads
 
 abbrev Inv-loop : tie.InvT-loop
 Inv-loop b at w₀ i₀ w i = (i ≤ length w₀) × (w ≡ put w₀ 0 (upto (λ (k : ℕ). u32At b (at + k * 4) ∷ []) i))
@@ -18,52 +15,40 @@ Inv-loop b at w₀ i₀ w i = (i ≤ length w₀) × (w ≡ put w₀ 0 (upto (λ
 abbrev μ-loop : tie.MeasureT-loop
 μ-loop b at w₀ i₀ w i = length w₀ - i
 
--- src/words.rt:59:5
 loop-holds : tie.Need-loop-holds Inv-loop μ-loop
 unfolding put upto
 loop-holds c = (omega arith, refl)
 
--- src/words.rt:60:36
 mul-u32-at : tie.Need-mul-u32-at Inv-loop μ-loop
 mul-u32-at c = omega (arith, kept _ _ _ (c .before .loop .inv .1))
 
--- src/words.rt:60:31
 add-u32-at : tie.Need-add-u32-at Inv-loop μ-loop
 add-u32-at c = omega (arith, kept _ _ _ (c .before .loop .inv .1))
 
--- src/words.rt:60:16
 u32-at-requires : tie.Need-u32-at-requires Inv-loop μ-loop
 u32-at-requires c κs = omega (arith, kept _ _ _ (c .before .loop .inv .1))
 
--- src/words.rt:60:16
 cast-w : tie.Need-cast-w Inv-loop μ-loop
 cast-w c = omega arith
 
--- src/words.rt:60:9
 mul-w : tie.Need-mul-w Inv-loop μ-loop
 mul-w c = omega (arith, kept _ _ _ (c .before .before .loop .inv .1))
 
--- src/words.rt:60:9
 slice-write-w : tie.Need-slice-write-w Inv-loop μ-loop
 slice-write-w c = omega (arith, kept _ _ _ (c .before .before .loop .inv .1))
 
--- src/words.rt:61:9
 add-i : tie.Need-add-i Inv-loop μ-loop
 add-i c = omega (arith, kept _ _ _ (c .before .before .loop .inv .1))
 
--- src/words.rt:59:5
 loop-less : tie.Need-loop-less Inv-loop μ-loop
 loop-less c = omega (arith, kept _ _ _ (c .before .before .loop .inv .1))
 
--- src/words.rt:59:5
 loop-again : tie.Need-loop-again Inv-loop μ-loop
 loop-again c = (omega (arith, kept _ _ _ (c .before .before .loop .inv .1)), set-turn (λ (k : ℕ). u32At (c .before .before .before .before .before .args .b .now) ((c .before .before .before .before .before .args .at) + k * 4)) _ 0 _ _ (c .before .before .loop .inv .1) (c .u32-at .ensures .0) (omega arith))
 
--- src/words.rt:54:1
 same-length : tie.Need-same-length Inv-loop μ-loop
 same-length c = kept _ _ _ (c .before .loop .inv .1)
 
--- src/words.rt:54:1
 returns : tie.Need-returns Inv-loop μ-loop
 returns c = let e : c .before .loop .i ≡ length (c .before .before .before .before .args .w .now) = omega (arith, kept _ _ _ (c .before .loop .inv .1)) in c .before .loop .inv .1 ∙ rw e
 

@@ -1,6 +1,5 @@
-use Prim.Native.Nat.{ℕ, _≤_, _-_, _+_}
+use Prim.Native.Nat.{ℕ, _≤_, _-_}
 use mathlib.Core.Path.{_≡_, refl, _∙_}
-use mathlib.Core.List.{[], _∷_}
 use lib.ListN.{length, getD}
 use native.Mathlib.Omega.{arith}
 use Rattle.buffers.specs.Put.{put, upto}
@@ -8,8 +7,6 @@ use Rattle.buffers.proofs.Puts.{set-turn, kept}
 use Rattle.stream.specs.Words.{plainBytes}
 use Rattle.stream.proofs.words.put_bytes.Statement.{statement}
 use Rattle.stream.proofs.words.put_bytes.Tie as tie
-use Rattle.stream.proofs.words.put_bytes.Reads as reads
-use Rattle.stream.proofs.words.put_bytes.Lts as lts
 
 abbrev Inv-loop : tie.InvT-loop
 Inv-loop out₀ at b i₀ out i = (i ≤ length b) × (out ≡ put out₀ at (plainBytes b i))
@@ -17,41 +14,32 @@ Inv-loop out₀ at b i₀ out i = (i ≤ length b) × (out ≡ put out₀ at (pl
 abbrev μ-loop : tie.MeasureT-loop
 μ-loop out₀ at b i₀ out i = length b - i
 
--- src/words.rt:58:5
 loop-holds : tie.Need-loop-holds Inv-loop μ-loop
 unfolding put upto plainBytes
 loop-holds c = (omega arith, refl)
 
--- src/words.rt:59:23
 shared-slice-read-out : tie.Need-shared-slice-read-out Inv-loop μ-loop
 shared-slice-read-out c = omega arith
 
--- src/words.rt:59:13
 add-out : tie.Need-add-out Inv-loop μ-loop
 add-out c = omega arith
 
--- src/words.rt:59:9
 slice-write-out : tie.Need-slice-write-out Inv-loop μ-loop
 slice-write-out c = omega (arith, kept _ _ _ (c .before .before .loop .inv .1))
 
--- src/words.rt:60:9
 add-i : tie.Need-add-i Inv-loop μ-loop
 add-i c = omega arith
 
--- src/words.rt:58:5
 loop-less : tie.Need-loop-less Inv-loop μ-loop
 loop-less c = omega arith
 
--- src/words.rt:58:5
 loop-again : tie.Need-loop-again Inv-loop μ-loop
 unfolding plainBytes
 loop-again c = (omega arith, set-turn (λ (k : ℕ). getD (c .before .before .before .args .b .now) k 0) _ _ _ _ (c .before .before .loop .inv .1) refl refl)
 
--- src/words.rt:53:1
 same-length : tie.Need-same-length Inv-loop μ-loop
 same-length c = kept _ _ _ (c .before .loop .inv .1)
 
--- src/words.rt:53:1
 returns : tie.Need-returns Inv-loop μ-loop
 returns c = let e : c .before .loop .i ≡ length (c .before .before .args .b .now) = omega arith in c .before .loop .inv .1 ∙ rw e
 

@@ -1,18 +1,13 @@
-use Prim.Native.Nat.{ℕ, _≤_, _-_, _*_, _+_}
+use Prim.Native.Nat.{ℕ, _≤_, _-_}
 use mathlib.Core.Path.{_≡_, refl, _∙_}
-use mathlib.Core.List.{[], _∷_}
 use lib.ListN.{length, getD}
 use native.Mathlib.Omega.{arith}
 use Rattle.buffers.specs.Put.{put, upto}
 use Rattle.buffers.proofs.Puts.{turn, kept}
-use Rattle.stream.specs.Words.{bytesOf, wordBytes, floatBytes}
+use Rattle.stream.specs.Words.{bytesOf, floatBytes}
 use lib.Ieee.{binary32, toBits, nan}
 use Rattle.stream.proofs.words.put_floats.Statement.{statement}
 use Rattle.stream.proofs.words.put_floats.Tie as tie
-use Rattle.stream.proofs.words.put_floats.Reads as reads
-use Rattle.stream.proofs.words.put_floats.Lts as lts
-use Rattle.stream.proofs.words.float_word.Reads as float-word-reads
-use Rattle.stream.proofs.words.put_word.Reads as put-word-reads
 
 abbrev Inv-loop : tie.InvT-loop
 Inv-loop out₀ at f i₀ out i = (i ≤ length f) × (out ≡ put out₀ at (floatBytes f i))
@@ -20,53 +15,41 @@ Inv-loop out₀ at f i₀ out i = (i ≤ length f) × (out ≡ put out₀ at (fl
 abbrev μ-loop : tie.MeasureT-loop
 μ-loop out₀ at f i₀ out i = length f - i
 
--- src/words.rt:47:5
 loop-holds : tie.Need-loop-holds Inv-loop μ-loop
 unfolding put upto floatBytes
 loop-holds c = (omega arith, refl)
 
--- src/words.rt:48:28
 mul-put-word : tie.Need-mul-put-word Inv-loop μ-loop
 mul-put-word c = omega arith
 
--- src/words.rt:48:23
 add-put-word : tie.Need-add-put-word Inv-loop μ-loop
 add-put-word c = omega arith
 
--- src/words.rt:48:46
 mul-float-word : tie.Need-mul-float-word Inv-loop μ-loop
 mul-float-word c = omega arith
 
--- src/words.rt:48:46
 shared-slice-read-float-word : tie.Need-shared-slice-read-float-word Inv-loop μ-loop
 shared-slice-read-float-word c = omega arith
 
--- src/words.rt:48:35
 float-word-requires : tie.Need-float-word-requires Inv-loop μ-loop
 float-word-requires c κs = tt
 
--- src/words.rt:48:9
 put-word-requires : tie.Need-put-word-requires Inv-loop μ-loop
 put-word-requires c κs = omega (arith, kept _ _ _ (c .before .before .before .before .loop .inv .1))
 
--- src/words.rt:49:9
 add-i : tie.Need-add-i Inv-loop μ-loop
 add-i c = omega arith
 
--- src/words.rt:47:5
 loop-less : tie.Need-loop-less Inv-loop μ-loop
 loop-less c = omega arith
 
--- src/words.rt:47:5
 loop-again : tie.Need-loop-again Inv-loop μ-loop
 unfolding floatBytes bytesOf
 loop-again c = (omega arith, turn (λ (k : ℕ). bytesOf (toBits binary32 (getD (c .before .before .before .before .before .before .before .before .before .before .args .f .now) k nan))) 4 (λ k. refl) _ _ _ _ (c .before .before .put-word .ensures ∙ rw (c .before .before .before .float-word .ensures)) (c .before .before .before .before .before .before .before .loop .inv .1) refl)
 
--- src/words.rt:42:1
 same-length : tie.Need-same-length Inv-loop μ-loop
 same-length c = kept _ _ _ (c .before .loop .inv .1)
 
--- src/words.rt:42:1
 returns : tie.Need-returns Inv-loop μ-loop
 returns c = let e : c .before .loop .i ≡ length (c .before .before .before .before .args .f .now) = omega arith in c .before .loop .inv .1 ∙ rw e
 

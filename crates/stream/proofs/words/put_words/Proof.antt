@@ -1,16 +1,12 @@
-use Prim.Native.Nat.{ℕ, _≤_, _-_, _*_, _+_}
+use Prim.Native.Nat.{ℕ, _≤_, _-_}
 use mathlib.Core.Path.{_≡_, refl, _∙_}
-use mathlib.Core.List.{[], _∷_}
 use lib.ListN.{length, getD}
 use native.Mathlib.Omega.{arith}
 use Rattle.buffers.specs.Put.{put, upto}
 use Rattle.buffers.proofs.Puts.{turn, kept}
-use Rattle.stream.specs.Words.{bytesOf, wordBytes, floatBytes}
+use Rattle.stream.specs.Words.{bytesOf, wordBytes}
 use Rattle.stream.proofs.words.put_words.Statement.{statement}
 use Rattle.stream.proofs.words.put_words.Tie as tie
-use Rattle.stream.proofs.words.put_words.Reads as reads
-use Rattle.stream.proofs.words.put_words.Lts as lts
-use Rattle.stream.proofs.words.put_word.Reads as put-word-reads
 
 abbrev Inv-loop : tie.InvT-loop
 Inv-loop out₀ at w i₀ out i = (i ≤ length w) × (out ≡ put out₀ at (wordBytes w i))
@@ -18,49 +14,38 @@ Inv-loop out₀ at w i₀ out i = (i ≤ length w) × (out ≡ put out₀ at (wo
 abbrev μ-loop : tie.MeasureT-loop
 μ-loop out₀ at w i₀ out i = length w - i
 
--- src/words.rt:36:5
 loop-holds : tie.Need-loop-holds Inv-loop μ-loop
 unfolding put upto wordBytes
 loop-holds c = (omega arith, refl)
 
--- src/words.rt:37:28
 mul-put-word : tie.Need-mul-put-word Inv-loop μ-loop
 mul-put-word c = omega arith
 
--- src/words.rt:37:23
 add-put-word : tie.Need-add-put-word Inv-loop μ-loop
 add-put-word c = omega arith
 
--- src/words.rt:37:35
 mul-put-word-2 : tie.Need-mul-put-word-2 Inv-loop μ-loop
 mul-put-word-2 c = omega arith
 
--- src/words.rt:37:35
 shared-slice-read-put-word : tie.Need-shared-slice-read-put-word Inv-loop μ-loop
 shared-slice-read-put-word c = omega arith
 
--- src/words.rt:37:9
 put-word-requires : tie.Need-put-word-requires Inv-loop μ-loop
 put-word-requires c κs = omega (arith, kept _ _ _ (c .before .before .before .loop .inv .1))
 
--- src/words.rt:38:9
 add-i : tie.Need-add-i Inv-loop μ-loop
 add-i c = omega arith
 
--- src/words.rt:36:5
 loop-less : tie.Need-loop-less Inv-loop μ-loop
 loop-less c = omega arith
 
--- src/words.rt:36:5
 loop-again : tie.Need-loop-again Inv-loop μ-loop
 unfolding wordBytes bytesOf
 loop-again c = (omega arith, turn (λ (k : ℕ). bytesOf (getD (c .before .before .before .before .before .before .before .before .before .args .w .now) k 0)) 4 (λ k. refl) _ _ _ _ (c .before .before .put-word .ensures) (c .before .before .before .before .before .before .loop .inv .1) refl)
 
--- src/words.rt:31:1
 same-length : tie.Need-same-length Inv-loop μ-loop
 same-length c = kept _ _ _ (c .before .loop .inv .1)
 
--- src/words.rt:31:1
 returns : tie.Need-returns Inv-loop μ-loop
 returns c = let e : c .before .loop .i ≡ length (c .before .before .before .before .args .w .now) = omega arith in c .before .loop .inv .1 ∙ rw e
 
