@@ -23,7 +23,7 @@ use Rattle.shape.specs.declared.Oxygen.the-variants.{At, Missing}
 use Rattle.course.specs.Residues.{oxygenAt}
 use Rattle.course.proofs.Laws.{put-all}
 use Rattle.skin.specs.Tube.{positionsOf, normalsOf, tagsOf}
-use Rattle.skin.specs.Box.{boxOf}
+use Rattle.boxes.specs.Box.{boxOf}
 use Rattle.skin.specs.Post.{Wrote}
 use Rattle.edges.specs.Tube.{tube}
 use Rattle.mesh.specs.Mesh.{kindOf, spotOf, spotAt, spots, airAt, positionsBy, normalsBy, boxBy}

@@ -13,7 +13,7 @@ use Rattle.shape.specs.declared.Kind.the-variants.{Coil, Helix, Sheet}
 use Rattle.shape.specs.declared.Oxygen.{Oxygen}
 use Rattle.shape.specs.declared.Oxygen.the-variants.{At, Missing}
 use Rattle.skin.specs.Tube.{positionsOf, normalsOf, tagsOf}
-use Rattle.skin.specs.Box.{boxOf}
+use Rattle.boxes.specs.Box.{boxOf}
 use Rattle.edges.specs.Tube.{tube}
 use Rattle.tubes.specs.Tubes.{Tube, alphaOf, oxygenOf}
 use Rattle.mesh.specs.Protein.{Protein}

@@ -110,7 +110,7 @@ pub fn write_tube(
     let t32 = t as u32;
     let n32 = n as u32;
     load_course(b, h, alphas, oxygens, course);
-    skin::boxes::put_box(&course[..three], n, boxes, 6 * k);
+    boxes::put_box(&course[..three], n, boxes, 6 * k);
     skin::tube::tube_vertices(
         oxygens,
         course,

@@ -4,13 +4,12 @@ use mathlib.Core.List.{List, [], _∷_, _++_, append-assoc, append-nil}
 use Prim.Native.Nat.{ℕ, zero, suc, _+_, _*_, _-_, _/_, _%_, _≤_, _<_}
 use native.Mathlib.Omega.{arith}
 use native.Mathlib.Nat.{mul-assoc}
-use native.Mathlib.Numerals.{add-one}
 use lib.Ieee.{Float}
 use lib.ListN.{length, take, drop, length-append}
 use borrow.Author.Tests.{lt-ltb}
 use lib.Seq.{take-at, drop-at, length-take-le}
 use Rattle.vectors.specs.declared.Vec3.{Vec3}
-use Rattle.vectors.specs.Vec.{floats, vecAt}
+use Rattle.vectors.specs.Vec.{floats}
 use Rattle.buffers.specs.Put.{put, upto}
 use Rattle.buffers.proofs.Puts.{next, turn, kept, length-upto}
 use Rattle.shape.specs.declared.Kind.{Kind}
@@ -24,7 +23,6 @@ use Rattle.course.specs.Residues.{oxygenAt, guidesOf, pointsOf}
 use Rattle.course.proofs.Laws.{rest, length-guides-of, length-points-of}
 use Rattle.skin.specs.Post.{Room, Wrote, Course, Residues}
 use Rattle.skin.specs.Tube.{vertexCount, ordered, eight, ringPositions, ringNormals, ringTags, skinPositions, skinNormals, positionsOf, normalsOf, tagsOf}
-use Rattle.skin.specs.Box.{onEach, over}
 
 -- the three buffers at once: one write after another
 pub wrote-next : {p₀ n₀ : List Float} {t₀ : List ℕ} {p n p′ n′ : List Float} {t t′ : List ℕ} (v w : ℕ) (x x′ y y′ : List Float) (z z′ : List ℕ)
@@ -181,11 +179,6 @@ whole kind p g n first sp ep sn en st et {p₀} {n₀} {p₁} {n₁} {p₂} {n�
   norm = parts 24 3 n (ringNormals kind p g n) (floats sn) (floats en) n₀ (3 * v) (3 * w) (3 * e) h (length-normals kind p g n) refl (a .norm) (b .norm) (c .norm) (omega arith) (omega arith);
   tag = parts 8 1 n (ringTags first n) (st ∷ []) (et ∷ []) t₀ v w e h (length-tags first n) refl (a .tag) (b .tag) (c .tag) (omega arith) (omega arith);
 }
-
--- a box grown by one point
-pub over-more : (f : Float → Float → Float) (l : List Float) (i : ℕ) {v w v′ : Vec3} → v ≡ over f l i → w ≡ vecAt l (i + 1) → v′ ≡ onEach f v w → v′ ≡ over f l (i + 1)
-unfolding over
-over-more f l i e ew e′ = rw (e′, e, ew, add-one)
 
 -- a course s that has been laid over l, of 6n floats: its two parts are what a tube's skin goes over
 module _ (kind : Kind) (flags : List ℕ) (l : List Float) (n first : ℕ) (r : Residues flags l n first) {s : List Float}

@@ -1,4 +1,3 @@
-// The vertices of one tube, and its box, written to lent buffers.
-pub mod boxes;
+// The vertices of one tube, written to lent buffers.
 pub mod rings;
 pub mod tube;

@@ -1,5 +1,5 @@
-use Rattle.skin.proofs.boxes.lower.Statement.{statement}
-use Rattle.skin.proofs.boxes.lower.Tie as tie
+use Rattle.boxes.proofs.lower.Statement.{statement}
+use Rattle.boxes.proofs.lower.Tie as tie
 
 returns : tie.Need-returns
 returns c = rw (c .if1 .taken)

@@ -1,5 +1,5 @@
-use Rattle.skin.proofs.boxes.upper.Statement.{statement}
-use Rattle.skin.proofs.boxes.upper.Tie as tie
+use Rattle.boxes.proofs.upper.Statement.{statement}
+use Rattle.boxes.proofs.upper.Tie as tie
 
 returns : tie.Need-returns
 returns c = rw (c .if1 .taken)

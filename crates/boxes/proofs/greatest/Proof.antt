@@ -1,7 +1,7 @@
-use Rattle.skin.specs.Box.{onEach}
+use Rattle.boxes.specs.Box.{onEach}
 use borrow.Author.Needs.{needs}
-use Rattle.skin.proofs.boxes.greatest.Statement.{statement}
-use Rattle.skin.proofs.boxes.greatest.Tie as tie
+use Rattle.boxes.proofs.greatest.Statement.{statement}
+use Rattle.boxes.proofs.greatest.Tie as tie
 
 upper-requires : tie.Need-upper-requires
 upper-requires c κs = search needs

@@ -3,10 +3,10 @@ use mathlib.Core.Path.{_≡_, refl}
 use Prim.Native.Nat.{_+_, _-_, _≤_}
 use native.Mathlib.Omega.{arith}
 use Rattle.buffers.proofs.Puts.{next, kept}
-use Rattle.skin.specs.Box.{lower, upper, over, boxOf}
-use Rattle.skin.proofs.Laws.{over-more}
-use Rattle.skin.proofs.boxes.put_box.Statement.{statement}
-use Rattle.skin.proofs.boxes.put_box.Tie as tie
+use Rattle.boxes.specs.Box.{lower, upper, over, boxOf}
+use Rattle.boxes.proofs.Laws.{over-more}
+use Rattle.boxes.proofs.put_box.Statement.{statement}
+use Rattle.boxes.proofs.put_box.Tie as tie
 
 abbrev Inv-loop : tie.InvT-loop
 Inv-loop ca n boxes at low₀ high₀ i₀ low high i = (i + 1 ≤ n) × (low ≡ over lower ca i) × (high ≡ over upper ca i)

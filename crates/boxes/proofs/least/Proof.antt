@@ -1,7 +1,7 @@
-use Rattle.skin.specs.Box.{onEach}
+use Rattle.boxes.specs.Box.{onEach}
 use borrow.Author.Needs.{needs}
-use Rattle.skin.proofs.boxes.least.Statement.{statement}
-use Rattle.skin.proofs.boxes.least.Tie as tie
+use Rattle.boxes.proofs.least.Statement.{statement}
+use Rattle.boxes.proofs.least.Tie as tie
 
 lower-requires : tie.Need-lower-requires
 lower-requires c κs = search needs
