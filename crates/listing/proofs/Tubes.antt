@@ -15,8 +15,7 @@ use Rattle.tubes.specs.Pieces.{pieces, apart}
 use Rattle.tubes.specs.Tubes.{Tube, given, shown, coilAlpha, segmentAlpha, alphaOf, frames, counts, covered, gap, tubeOf, tubesOf, runTubes, segmentTubes, joined, loose, joins, extended, coilTubes, tubes}
 use Rattle.tubes.specs.declared.Source.{Source}
 use Rattle.tubes.specs.declared.Source.the-variants.{Coils, Segment}
-use Rattle.tubes.proofs.Laws.{uncut-consecutive, uncut-chain, chosen-below}
-use Rattle.segments.proofs.Laws.{chosen-true, given-above}
+use Rattle.tubes.proofs.Laws.{uncut-consecutive, uncut-chain, chosen-below, chosen-true, given-above}
 use Rattle.mesh.specs.Mesh.{sizeOf}
 use Rattle.listing.specs.Listing.{Known, Proper, EachList, Every}
 use Rattle.listing.proofs.Linked.{Linked, linked-each, linked-neighbours, linked-from, linked-weak, pieces-linked, extended-linked}

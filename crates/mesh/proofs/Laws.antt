@@ -1,11 +1,10 @@
 -- Laws of a tube's scratch: what is loaded, and what the shape reads of it. Assumes nothing.
-use Prim.Native.Nat.{ℕ, zero, suc, _+_, _-_, _*_, _<_, _≤_}
+use Prim.Native.Nat.{ℕ, zero, suc, _+_, _-_, _*_, _<_}
 use mathlib.Core.Bool.{Bool, true, false, cond}
-use mathlib.Core.List.{List, [], _∷_, _++_, append-nil}
-use mathlib.Core.Path.{_≡_, refl, sym, _∙_, ap, subst, fun-ext}
+use mathlib.Core.List.{List, [], _∷_, _++_}
+use mathlib.Core.Path.{_≡_, refl, sym, _∙_, ap, fun-ext}
 use mathlib.Core.Logic.{⊎-elim}
 use native.Mathlib.Nat.{eq-or-lt-of-le, le-of-suc-le-suc, lt-of-lt-of-le, mul-le-mul-right, suc-mul}
-use native.Mathlib.Numerals.{add-one}
 use native.Mathlib.Omega.{arith}
 use lib.ListN.{length, getD, take, drop, set, length-append, List·getD-append, List·getD-eq-default}
 use lib.Seq.{take-at, drop-at, getD-append-add}
@@ -15,10 +14,9 @@ use borrow.Author.Tests.{eqb-false, ltb-true, ltb-false}
 use Rattle.buffers.specs.Put.{put, upto}
 use Rattle.buffers.proofs.Puts.{next, length-upto}
 use Rattle.vectors.specs.declared.Vec3.{Vec3}
-use Rattle.vectors.specs.Vec.{vec, floats, vecAt}
+use Rattle.vectors.specs.Vec.{vecAt}
 use Rattle.shape.specs.declared.Kind.{Kind}
-use Rattle.shape.specs.declared.Kind.the-variants.{Coil, Helix, Sheet}
-use Rattle.shape.specs.declared.Oxygen.{Oxygen}
+use Rattle.shape.specs.declared.Kind.the-variants.{Sheet}
 use Rattle.shape.specs.declared.Oxygen.the-variants.{At, Missing}
 use Rattle.course.specs.Residues.{oxygenAt}
 use Rattle.course.proofs.Laws.{put-all}

@@ -2,53 +2,24 @@
 use Prim.Native.Nat.{ℕ, zero, suc, _+_, _-_, _<_, _≤_}
 use mathlib.Core.Bool.{Bool, true, false, cond, _&&_}
 use mathlib.Core.List.{List}
-use mathlib.Core.Path.{_≡_, refl, sym, _∙_, ap, subst}
-use mathlib.Core.Logic.{⊎-elim, _≢_}
+use mathlib.Core.Path.{_≡_, refl, sym, _∙_, ap}
+use mathlib.Core.Logic.{⊎-elim}
 use native.Mathlib.Nat.{eq-or-lt-of-le, le-of-suc-le-suc, zero-add, add-zero}
 use native.Mathlib.Numerals.{add-one}
 use native.Mathlib.Omega.{arith}
-use native.Mathlib.Decide.{ℕ-discrete}
 use lib.ListN.{length, getD, set, length-set}
 use lib.Seq.{getD-set-same, getD-set-other}
 use lib.Dec.{eqb}
 use borrow.Author.Tests.{eq-eqb, ne-eqb, eqb-true, eqb-false, not-true, not-false}
 use Rattle.job.specs.Search.{first, last, orElse}
-use Rattle.tables.specs.Table.{Filled, keeps}
+use Rattle.tables.specs.Table.{keeps}
+use Rattle.scratch.specs.Scratch.{Filled}
 use Rattle.tables.specs.Job.{Job, wants, gives, found, codeAt, chainOf}
 use Rattle.tables.specs.declared.Want.the-variants.{Chain}
 use Rattle.tables.specs.declared.Want.{Want}
 use Rattle.tables.specs.declared.Which.{Which}
 use Rattle.tables.specs.declared.Which.the-variants.{First, Last}
-
--- a store at r₀'s place makes the table that of g, where g differs from f at r₀ alone
-pub fill-set : (f g : ℕ → ℕ) (base n : ℕ) (t₀ t : List ℕ) (r₀ v : ℕ) → Filled f base n t₀ t → r₀ < n → base + n ≤ length t₀
-    → g r₀ ≡ v → ((r : ℕ) → r < n → r ≢ r₀ → g r ≡ f r) → Filled g base n t₀ (set t (base + r₀) v)
-fill-set f g base n t₀ t r₀ v F l fits here there = record {
-  size = length-set t (base + r₀) v ∙ F .size;
-  entry = λ r h. go r h (eqb r r₀) refl;
-  before = λ j h. getD-set-other t (base + r₀) j v 0 (λ e. omega arith) ∙ F .before j h;
-  after = λ j h. getD-set-other t (base + r₀) j v 0 (λ e. omega arith) ∙ F .after j h;
-}
-  where
-    go : (r : ℕ) → r < n → (b : Bool) → eqb r r₀ ≡ b → getD (set t (base + r₀) v) (base + r) 0 ≡ g r
-    go r h true e =
-        let q = eqb-true r r₀ e in
-        let z = F .size in
-        rw q (getD-set-same t (base + r₀) v 0 (omega arith) ∙ sym here)
-    go r h false e =
-        let q = eqb-false r r₀ e in
-        getD-set-other t (base + r₀) (base + r) v 0 (λ p. q (omega arith)) ∙ F .entry r h ∙ sym (there r h q)
-
-pub fill-same : (f g : ℕ → ℕ) (base n : ℕ) (t₀ t : List ℕ) → Filled f base n t₀ t → ((r : ℕ) → r < n → g r ≡ f r) → Filled g base n t₀ t
-fill-same f g base n t₀ t F same = record {
-  size = F .size;
-  entry = λ r h. F .entry r h ∙ sym (same r h);
-  before = F .before;
-  after = F .after;
-}
-
-pub fill-start : (f : ℕ → ℕ) (base n : ℕ) (t : List ℕ) → ((r : ℕ) → r < n → getD t (base + r) 0 ≡ f r) → Filled f base n t t
-fill-start f base n t h = record { size = refl; entry = h; before = λ j l. refl; after = λ j l. refl }
+use Rattle.scratch.proofs.Laws.{fill-set, fill-same}
 
 pub last-zero : (t : ℕ → Bool) → last t 0 ≡ 0
 unfolding last
@@ -163,12 +134,6 @@ module _ (J : Job) (x : Which) (w : Want) (base first n : ℕ) (t₀ t : List �
           let place : base + first + i ≡ base + r = omega arith in
           found-kept x _ a (ap (keeps x) (sym (F .entry i m) ∙ ap (λ (j : ℕ). getD t j 0) place) ∙ k)
       go i m false e = found-no x _ a (gives-other J w (first + i) a (λ p. eqb-false (first + i) r e (sym p ∙ sym q)))
-
--- the table of all residues
-pub fill-all : (f : ℕ → ℕ) (base n : ℕ) (t₀ t : List ℕ) → Filled (λ r. f (0 + r)) (base + 0) (n - 0) t₀ t → Filled f base n t₀ t
-fill-all f base n t₀ t F =
-    let all : n - 0 ≡ n = omega arith in
-    fill-same _ f base n t₀ t (rw (add-zero, all) at F) (λ r l. ap f (sym (zero-add r)))
 
 pub last-le : (t : ℕ → Bool) (n : ℕ) → last t n ≤ n
 unfolding last

@@ -1,8 +1,8 @@
 -- What a job says, apart from its coordinates, as functions of the number of an atom, a segment or a chain. No layout of bytes shows above this file:
 -- another version of the bytes, or segment records in a place of their own, is another `jobOf`.
-use Prim.Native.Nat.{ℕ, zero, suc, _+_}
+use Prim.Native.Nat.{ℕ, zero, suc, _+_, _≤_}
 use mathlib.Core.List.{List}
-use mathlib.Core.Bool.{Bool, true, false, not, _&&_}
+use mathlib.Core.Bool.{Bool, not, _&&_}
 use lib.Dec.{eqb, leb}
 use Rattle.job.specs.Search.{first, last}
 use Rattle.job.specs.Bytes.{u8At, u16At, u32At}
@@ -71,3 +71,7 @@ codeAt J (suc a) = J .chain a + 1
 -- 'Residue's chain: the last atom giving both': one more than the chain, and 0 for none, so that 'two residues with no chain share it'
 unfoldable pub chainOf : Job → ℕ → ℕ
 chainOf J r = codeAt J (last (gives J Chain r) (J .atoms))
+
+-- no code of a chain is above C
+abbrev pub Chained : Job → ℕ → Type 0
+Chained J C = (r : ℕ) → chainOf J r ≤ C

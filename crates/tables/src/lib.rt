@@ -3,14 +3,14 @@ pub mod stretch;
 
 use job::Head;
 ghost use mathlib.Core.Path.{_≡_};
-ghost use mathlib.Core.Bool.{Bool, _&&_};
 ghost use Prim.Native.Nat.{ℕ, _+_, _-_, _≤_, _<_};
 ghost use lib.ListN.{length, getD};
 ghost use lib.Dec.{eqb};
 ghost use Rattle.job.specs.Search.{last};
 ghost use Rattle.job.specs.Layout.{Whole};
 ghost use Rattle.tables.specs.Job.{jobOf, inside, wants, gives, found, chainOf};
-ghost use Rattle.tables.specs.Table.{Filled, keeps};
+ghost use Rattle.tables.specs.Table.{keeps};
+ghost use Rattle.scratch.specs.Scratch.{Filled};
 ghost use Rattle.tables.specs.Stretch.{Holds};
 
 // Serial numbers from start to stop, both included.

@@ -4,7 +4,7 @@ use crate::Range;
 use job::Head;
 ghost use mathlib.Core.Path.{_≡_};
 ghost use mathlib.Core.Bool.{true};
-ghost use Prim.Native.Nat.{ℕ, _+_, _≤_, _<_};
+ghost use Prim.Native.Nat.{_+_, _≤_, _<_};
 ghost use Rattle.job.specs.Layout.{Whole};
 ghost use Rattle.tables.specs.Job.{jobOf};
 ghost use Rattle.tables.specs.Stretch.{sorted, Splits, Reaches, Spans, Widened};

@@ -1,10 +1,7 @@
-use mathlib.Core.Path.{_≡_, refl, sym, ap, _∙_}
 use Rattle.mesh.specs.Mesh.{kindOf}
 use Rattle.mesh.proofs.Laws.{kind-sheet}
 use Rattle.mesh.proofs.kind_of.Statement.{statement}
 use Rattle.mesh.proofs.kind_of.Tie as tie
-use Rattle.mesh.proofs.kind_of.Reads as reads
-use Rattle.mesh.proofs.kind_of.Lts as lts
 
 -- src/lib.rt:25:9
 returns : tie.Need-returns

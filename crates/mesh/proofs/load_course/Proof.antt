@@ -2,9 +2,6 @@ use Rattle.mesh.proofs.Laws.{course-is}
 use borrow.Author.Needs.{needs}
 use Rattle.mesh.proofs.load_course.Statement.{statement}
 use Rattle.mesh.proofs.load_course.Tie as tie
-use Rattle.mesh.proofs.load_course.Reads as reads
-use Rattle.mesh.proofs.load_course.Lts as lts
-use Rattle.mesh.proofs.load.Reads as load-reads
 
 -- src/lib.rt:67:5
 load-requires : tie.Need-load-requires

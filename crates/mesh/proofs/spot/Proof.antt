@@ -1,12 +1,9 @@
-use mathlib.Core.Path.{_≡_, refl, sym, ap, _∙_}
+use mathlib.Core.Path.{_∙_}
 use Rattle.mesh.specs.Mesh.{spotOf}
 use Rattle.mesh.proofs.Laws.{spot-some}
 use borrow.Author.Needs.{needs}
 use Rattle.mesh.proofs.spot.Statement.{statement}
 use Rattle.mesh.proofs.spot.Tie as tie
-use Rattle.mesh.proofs.spot.Reads as reads
-use Rattle.mesh.proofs.spot.Lts as lts
-use Rattle.places.proofs.place.Reads as place-reads
 
 -- src/lib.rt:39:9
 returns : tie.Need-returns

@@ -1,21 +1,8 @@
-use Prim.Native.Nat.{ℕ, _≤_, _<_, _-_, _+_, _*_}
-use mathlib.Core.Bool.{Bool, true, false, not}
-use mathlib.Core.Path.{_≡_, refl, sym, ap, _∙_}
-use lib.ListN.{getD, length}
-use lib.Dec.{ltb}
+use Prim.Native.Nat.{_-_}
 use native.Mathlib.Omega.{arith}
 use borrow.Author.Needs.{needs}
-use borrow.Author.Count.{below-none, below-more}
-use borrow.Author.Tests.{lt-ltb, le-ltb, eq-eqb, ne-eqb, le-leb, lt-leb}
-use Rattle.tables.specs.Job.{jobOf, inside, wants, gives}
-use Rattle.tables.specs.Table.{Filled}
-use Rattle.job.specs.Search.{last}
 use Rattle.tables.proofs.chain.Statement.{statement}
 use Rattle.tables.proofs.chain.Tie as tie
-use Rattle.tables.proofs.chain.Reads as reads
-use Rattle.tables.proofs.chain.Lts as lts
-use Rattle.job.proofs.atom_at.Reads as atom-at-reads
-use Rattle.job.proofs.u16_at.Reads as u16-at-reads
 
 -- src/lib.rt:61:21
 atom-at-requires : tie.Need-atom-at-requires

@@ -1,13 +1,10 @@
 use native.Mathlib.Omega.{arith}
-use Rattle.tables.proofs.Laws.{fill-all}
+use Rattle.scratch.proofs.Laws.{fill-all}
 use Rattle.tables.proofs.Parts.{held-all}
 use native.Mathlib.Nat.{add-zero}
 use borrow.Author.Needs.{needs}
 use Rattle.tables.proofs.fill.Statement.{statement}
 use Rattle.tables.proofs.fill.Tie as tie
-use Rattle.tables.proofs.fill.Reads as reads
-use Rattle.tables.proofs.fill.Lts as lts
-use Rattle.tables.proofs.fill_part.Reads as fill-part-reads
 
 -- src/lib.rt:153:13
 cast-t9 : tie.Need-cast-t9

@@ -5,8 +5,9 @@ use mathlib.Core.Logic.{⊎-elim}
 use native.Mathlib.Omega.{arith}
 use borrow.Author.Tests.{not-true, not-false}
 use Rattle.tables.specs.Job.{jobOf, gives, found}
-use Rattle.tables.specs.Table.{Filled}
-use Rattle.tables.proofs.Laws.{fill-same, fill-start, turn-hit, turn-miss, turn-out, turn-kept}
+use Rattle.scratch.specs.Scratch.{Filled}
+use Rattle.tables.proofs.Laws.{turn-hit, turn-miss, turn-out, turn-kept}
+use Rattle.scratch.proofs.Laws.{fill-same, fill-start}
 use Rattle.tables.proofs.Parts.{found-before, found-after}
 use Rattle.tables.proofs.fill_part.Statement.{statement}
 use Rattle.tables.proofs.fill_part.Tie as tie

@@ -1,10 +1,7 @@
-use mathlib.Core.Path.{_≡_, refl, sym, ap, _∙_}
 use Rattle.tables.specs.Table.{keeps}
 use borrow.Author.Needs.{needs}
 use Rattle.tables.proofs.is_kept.Statement.{statement}
 use Rattle.tables.proofs.is_kept.Tie as tie
-use Rattle.tables.proofs.is_kept.Reads as reads
-use Rattle.tables.proofs.is_kept.Lts as lts
 
 -- src/lib.rt:98:25
 enum-told : tie.Need-enum-told

@@ -1,11 +1,12 @@
 use Rattle.tables.specs.declared.Want.the-variants.{Chain}
-use Rattle.tables.proofs.Laws.{fill-start, last-le, grow-at, grow-same, grow-set, code-none, code-some}
+use Rattle.tables.proofs.Laws.{last-le, grow-at, grow-same, grow-set, code-none, code-some}
+use Rattle.scratch.proofs.Laws.{fill-start}
 use Prim.Native.Nat.{ℕ, _≤_, _-_, _+_}
 use mathlib.Core.Path.{_≡_, ap, _∙_}
 use native.Mathlib.Omega.{arith}
 use borrow.Author.Needs.{needs}
 use Rattle.tables.specs.Job.{jobOf, gives, chainOf}
-use Rattle.tables.specs.Table.{Filled}
+use Rattle.scratch.specs.Scratch.{Filled}
 use mathlib.Core.Logic.{⊎-elim}
 use Rattle.tables.proofs.to_chains.Statement.{statement}
 use Rattle.tables.proofs.to_chains.Tie as tie

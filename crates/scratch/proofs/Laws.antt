@@ -1,0 +1,98 @@
+-- Laws of what scratch words hold, one store or one turn of a loop at a time. Assumes nothing.
+use Prim.Native.Nat.{ℕ, _+_, _-_, _<_, _≤_}
+use mathlib.Core.Bool.{Bool, true, false}
+use mathlib.Core.List.{List}
+use mathlib.Core.Path.{_≡_, refl, sym, _∙_, ap}
+use mathlib.Core.Logic.{_≢_, ⊎-elim}
+use native.Mathlib.Nat.{zero-add, add-zero, eq-or-lt-of-le, le-of-suc-le-suc}
+use native.Mathlib.Omega.{arith}
+use lib.ListN.{length, getD, set, length-set}
+use lib.Seq.{getD-set-same, getD-set-other}
+use lib.Dec.{eqb}
+use borrow.Author.Tests.{eqb-true, eqb-false}
+use Rattle.scratch.specs.Scratch.{Filled, Kept}
+use native.Mathlib.Numerals.{add-one}
+
+-- a store at r₀'s place makes the table that of g, where g differs from f at r₀ alone
+pub fill-set : (f g : ℕ → ℕ) (base n : ℕ) (t₀ t : List ℕ) (r₀ v : ℕ) → Filled f base n t₀ t → r₀ < n → base + n ≤ length t₀
+    → g r₀ ≡ v → ((r : ℕ) → r < n → r ≢ r₀ → g r ≡ f r) → Filled g base n t₀ (set t (base + r₀) v)
+fill-set f g base n t₀ t r₀ v F l fits here there = record {
+  size = length-set t (base + r₀) v ∙ F .size;
+  entry = λ r h. go r h (eqb r r₀) refl;
+  before = λ j h. getD-set-other t (base + r₀) j v 0 (λ e. omega arith) ∙ F .before j h;
+  after = λ j h. getD-set-other t (base + r₀) j v 0 (λ e. omega arith) ∙ F .after j h;
+}
+  where
+    go : (r : ℕ) → r < n → (b : Bool) → eqb r r₀ ≡ b → getD (set t (base + r₀) v) (base + r) 0 ≡ g r
+    go r h true e =
+        let q = eqb-true r r₀ e in
+        let z = F .size in
+        rw q (getD-set-same t (base + r₀) v 0 (omega arith) ∙ sym here)
+    go r h false e =
+        let q = eqb-false r r₀ e in
+        getD-set-other t (base + r₀) (base + r) v 0 (λ p. q (omega arith)) ∙ F .entry r h ∙ sym (there r h q)
+
+pub fill-same : (f g : ℕ → ℕ) (base n : ℕ) (t₀ t : List ℕ) → Filled f base n t₀ t → ((r : ℕ) → r < n → g r ≡ f r) → Filled g base n t₀ t
+fill-same f g base n t₀ t F same = record {
+  size = F .size;
+  entry = λ r h. F .entry r h ∙ sym (same r h);
+  before = F .before;
+  after = F .after;
+}
+
+pub fill-start : (f : ℕ → ℕ) (base n : ℕ) (t : List ℕ) → ((r : ℕ) → r < n → getD t (base + r) 0 ≡ f r) → Filled f base n t t
+fill-start f base n t h = record { size = refl; entry = h; before = λ j l. refl; after = λ j l. refl }
+
+-- the table of all residues
+pub fill-all : (f : ℕ → ℕ) (base n : ℕ) (t₀ t : List ℕ) → Filled (λ r. f (0 + r)) (base + 0) (n - 0) t₀ t → Filled f base n t₀ t
+fill-all f base n t₀ t F =
+    let all : n - 0 ≡ n = omega arith in
+    fill-same _ f base n t₀ t (rw (add-zero, all) at F) (λ r l. ap f (sym (zero-add r)))
+
+-- a table that grows by one place
+pub fill-extend : (f : ℕ → ℕ) (base i : ℕ) (t₀ t : List ℕ) → Filled f base i t₀ t → base + i < length t₀ → Filled f base (i + 1) t₀ (set t (base + i) (f i))
+fill-extend f base i t₀ t F l =
+    let z = F .size in
+    record {
+      size = length-set t (base + i) (f i) ∙ F .size;
+      entry = λ r h. ⊎-elim
+          (λ e. rw e (getD-set-same t (base + i) (f i) 0 (omega arith)))
+          (λ m. getD-set-other t (base + i) (base + r) (f i) 0 (λ e. omega arith) ∙ F .entry r m)
+          (eq-or-lt-of-le (le-of-suc-le-suc (rw add-one at h)));
+      before = λ j h. getD-set-other t (base + i) j (f i) 0 (λ e. omega arith) ∙ F .before j h;
+      after = λ j h. getD-set-other t (base + i) j (f i) 0 (λ e. omega arith) ∙ F .after j (omega arith);
+    }
+
+-- the same where the place has its value already
+pub fill-leave : (f : ℕ → ℕ) (base i : ℕ) (t₀ t : List ℕ) → Filled f base i t₀ t → f i ≡ getD t₀ (base + i) 0 → Filled f base (i + 1) t₀ t
+fill-leave f base i t₀ t F q = record {
+  size = F .size;
+  entry = λ r h. ⊎-elim
+      (λ e. rw e (F .after (base + i) (omega arith) ∙ sym q))
+      (λ m. F .entry r m)
+      (eq-or-lt-of-le (le-of-suc-le-suc (rw add-one at h)));
+  before = F .before;
+  after = λ j h. F .after j (omega arith);
+}
+
+pub fill-empty : (f : ℕ → ℕ) (base : ℕ) (t : List ℕ) → Filled f base 0 t t
+fill-empty f base t = record { size = refl; entry = λ r h. absurd (omega arith); before = λ j h. refl; after = λ j h. refl }
+
+pub kept-refl : (lo hi : ℕ) (t : List ℕ) → Kept lo hi t t
+kept-refl lo hi t = record { size = refl; before = λ j h. refl; after = λ j h. refl }
+
+pub kept-trans : (lo hi : ℕ) (t u v : List ℕ) → Kept lo hi t u → Kept lo hi u v → Kept lo hi t v
+kept-trans lo hi t u v a b = record {
+  size = b .size ∙ a .size;
+  before = λ j h. b .before j h ∙ a .before j h;
+  after = λ j h. b .after j h ∙ a .after j h;
+}
+
+-- places that were cleared and then filled
+pub fill-cleared : (f : ℕ → ℕ) (base n : ℕ) (t₀ t₁ t₂ : List ℕ) → Filled (λ r. 0) base n t₀ t₁ → Filled f base n t₁ t₂ → Filled f base n t₀ t₂
+fill-cleared f base n t₀ t₁ t₂ F G = record {
+  size = G .size ∙ F .size;
+  entry = G .entry;
+  before = λ j l. G .before j l ∙ F .before j l;
+  after = λ j l. G .after j l ∙ F .after j l;
+}
