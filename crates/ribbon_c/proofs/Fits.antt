@@ -9,9 +9,10 @@ use lib.ListN.{length}
 use borrow.Author.Tests.{ltb-false}
 use Rattle.tubes.specs.Tubes.{Tube}
 use Rattle.mesh.specs.Mesh.{vertexSum, triangleSum}
-use Rattle.ribbon.specs.declared.Counts.{Counts}
+use Rattle.room.specs.declared.Counts.{Counts}
 use Rattle.ribbon.specs.declared.Built.the-variants.{Mesh}
-use Rattle.ribbon.specs.Calls.{jobTubes, Lent, tooMany, buildAnswer}
+use Rattle.ribbon.specs.Calls.{jobTubes, buildAnswer}
+use Rattle.room.specs.Room.{Lent, tooMany}
 use Rattle.ribbon.proofs.Written.{AllLong, list-long-of, long-sums}
 use Rattle.ribbon.proofs.Demands.{accepted}
 use Rattle.ribbon_c.specs.Words.{wordOf, wordsOf, builtNumbers}

@@ -4,12 +4,12 @@ use mathlib.Core.Bool.{Bool, true, false, cond, _&&_}
 use mathlib.Core.List.{List, [], _∷_}
 use Prim.Native.Nat.{ℕ, _+_, _*_, _/_, _≤_, _<_}
 use native.Mathlib.Omega.{arith}
-use lib.Dec.{ltb, leb, eqb}
+use lib.Dec.{ltb, leb}
 use lib.ListN.{length, take, drop, getD, length-drop}
 use lib.Seq.{length-take-le}
 use borrow.Author.Tests.{ltb-true, leb-true, ne-eqb}
 use Rattle.mesh.specs.Mesh.{triangleCount}
-use Rattle.ribbon.specs.Calls.{tubePart}
+use Rattle.tube_call.specs.Part.{tubePart}
 use Rattle.ribbon_c.specs.Parts.{Part}
 
 clash : {P : Type 0} → true ≡ false → P

@@ -5,7 +5,7 @@ use mathlib.Core.List.{List}
 use Prim.Native.Nat.{ℕ, _+_, _*_, _≤_}
 use lib.Dec.{eqb}
 use lib.ListN.{length, take, drop, getD}
-use Rattle.ribbon.specs.Calls.{tubePart}
+use Rattle.tube_call.specs.Part.{tubePart}
 
 -- 'from three times the tube's first triangle'; 0 where the part is empty
 pub record Part (tubes triangles : List ℕ) (k start n : ℕ) : Type 0 where

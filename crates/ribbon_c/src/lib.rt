@@ -7,7 +7,8 @@ ghost use mathlib.Core.Path.{_≡_};
 ghost use lib.ListN.{length};
 ghost use Rattle.answers.specs.Numbers.{refusalNumbers};
 ghost use Rattle.mesh.specs.Outs.{outs};
-ghost use Rattle.ribbon.specs.Calls.{lent, buildAnswer, planAnswer, outsAfter, wordsAfter, floatsAfter};
+ghost use Rattle.ribbon.specs.Calls.{buildAnswer, planAnswer, outsAfter, wordsAfter, floatsAfter};
+ghost use Rattle.room.specs.Room.{lent};
 ghost use Rattle.pdb_reader.specs.Call.{readAnswer, bufferAfter};
 ghost use Rattle.ribbon_c.specs.Parts.{Part};
 ghost use Rattle.ribbon_c.specs.Words.{wordOf, wordsOf, builtNumbers, plannedNumbers, readNumbers};
@@ -125,7 +126,7 @@ pub extern "C" fn ribbon_tube(
 ) -> usize
     ensures { λ n. ⌜ Part (now (tubes .entry)) (now (triangles .entry)) k (now (start .exit)) n ⌝ }
 {
-    let n = ribbon::tube(tubes, triangles, k).len();
+    let n = tube_call::tube(tubes, triangles, k).len();
     if n == 0 {
         *start = 0;
         return 0;

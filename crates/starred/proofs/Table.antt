@@ -10,7 +10,7 @@ use Rattle.skin.proofs.Cases.{halfIs, tagsAre, firstIs}
 use Rattle.tubes.specs.Tubes.{Tube}
 use Rattle.tubes.specs.declared.Source.the-variants.{Coils, Segment}
 use Rattle.listing.specs.Cases.{empty, six, two, givesTubes, cuts}
-use Rattle.ribbon.specs.Calls.{Lent}
+use Rattle.room.specs.Room.{Lent}
 use Rattle.starred.specs.Answers.{roomFor, builds, plans}
 
 pub data Case : Type 0 where

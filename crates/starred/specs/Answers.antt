@@ -26,7 +26,8 @@ use Rattle.ribbon.specs.declared.Built.{Built}
 use Rattle.ribbon.specs.declared.Built.the-variants.{Mesh, NoMesh}
 use Rattle.ribbon.specs.declared.Planned.{Planned}
 use Rattle.ribbon.specs.declared.Planned.the-variants.{Plan, NoPlan}
-use Rattle.ribbon.specs.Calls.{jobTubes, wordsAt, Lent, shortScratch, tooMany, tight, buildChecks, buildAnswer, planChecks, planAnswer}
+use Rattle.ribbon.specs.Calls.{jobTubes, wordsAt, buildChecks, buildAnswer, planChecks, planAnswer}
+use Rattle.room.specs.Room.{Lent, shortScratch, tooMany, tight}
 
 -- room for v vertices, t triangles and k tubes, and scratch for r residues
 abbrev pub roomFor : ℕ → ℕ → ℕ → ℕ → Lent

@@ -1,11 +1,7 @@
-use mathlib.Core.Path.{_≡_, _∙_}
+use mathlib.Core.Path.{_∙_}
 use borrow.Author.Needs.{needs}
 use Rattle.ribbon_c.proofs.read_words.Statement.{statement}
 use Rattle.ribbon_c.proofs.read_words.Tie as tie
-use Rattle.ribbon_c.proofs.read_words.Reads as reads
-use Rattle.ribbon_c.proofs.read_words.Lts as lts
-use Rattle.ribbon_c.proofs.refusal_words.Reads as refusal-words-reads
-use Rattle.ribbon_c.proofs.word.Reads as word-reads
 
 -- src/lib.rt:63:23
 enum-known-a : tie.Need-enum-known-a

@@ -1,13 +1,9 @@
-use mathlib.Core.Path.{_≡_, ap, _∙_}
+use mathlib.Core.Path.{ap, _∙_}
 use Rattle.ribbon_c.specs.Words.{wordsOf, plannedNumbers}
 use Rattle.ribbon.specs.declared.Planned.{Planned}
 use borrow.Author.Needs.{needs}
 use Rattle.ribbon_c.proofs.ribbon_plan.Statement.{statement}
 use Rattle.ribbon_c.proofs.ribbon_plan.Tie as tie
-use Rattle.ribbon_c.proofs.ribbon_plan.Reads as reads
-use Rattle.ribbon_c.proofs.ribbon_plan.Lts as lts
-use Rattle.ribbon.proofs.plan.Reads as plan-reads
-use Rattle.ribbon_c.proofs.planned_words.Reads as planned-words-reads
 
 -- src/lib.rt:103:9
 plan-requires : tie.Need-plan-requires

@@ -1,13 +1,9 @@
-use mathlib.Core.Path.{_≡_, ap, _∙_}
+use mathlib.Core.Path.{ap, _∙_}
 use Rattle.ribbon_c.specs.Words.{wordsOf, readNumbers}
 use Rattle.pdb_reader.specs.declared.Read.{Read}
 use borrow.Author.Needs.{needs}
 use Rattle.ribbon_c.proofs.ribbon_read_pdb.Statement.{statement}
 use Rattle.ribbon_c.proofs.ribbon_read_pdb.Tie as tie
-use Rattle.ribbon_c.proofs.ribbon_read_pdb.Reads as reads
-use Rattle.ribbon_c.proofs.ribbon_read_pdb.Lts as lts
-use Rattle.pdb_reader.proofs.read_pdb.Reads as read-pdb-reads
-use Rattle.ribbon_c.proofs.read_words.Reads as read-words-reads
 
 -- src/lib.rt:147:9
 read-pdb-requires : tie.Need-read-pdb-requires

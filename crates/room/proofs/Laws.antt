@@ -1,0 +1,114 @@
+-- Laws of checks 9 to 11 and of the clearing. Assumes nothing.
+use Prim.Native.Nat.{ℕ, zero, suc, _+_, _-_, _*_, _<_, _≤_}
+use mathlib.Core.Bool.{Bool, true, false, _||_}
+use mathlib.Core.List.{List, [], _∷_, _++_}
+use mathlib.Core.Path.{_≡_, refl, sym, _∙_, ap}
+use native.Mathlib.Nat.{zero-add}
+use native.Mathlib.Numerals.{add-one}
+use native.Mathlib.Omega.{arith}
+use lib.ListN.{length, getD, drop, set, replicate, length-drop, length-append, length-replicate, getD-replicate, List·getD-append}
+use lib.Seq.{getD-drop, getD-append-add, ext-getD, drop-drop}
+use lib.Dec.{ltb}
+use borrow.Author.Tests.{lt-ltb, le-ltb, ltb-true, ltb-false}
+use Rattle.job.specs.declared.Head.{Head}
+use Rattle.scratch.specs.Scratch.{Filled, Kept}
+use Rattle.job.specs.Check.{sizes}
+use Rattle.buffers.proofs.Any.{drop-same}
+use Rattle.room.specs.Room.{shortScratch, zeroed, Lent, tight}
+use Rattle.mesh.specs.Outs.{Outs, Room}
+use Rattle.room.specs.declared.Counts.{Counts}
+
+pub zeroed-is : (n : ℕ) (t₀ t u : List ℕ) → n ≤ length t₀ → Kept 0 n t₀ t → Filled (λ r. 0) 0 n t u → u ≡ zeroed 0 n t₀
+zeroed-is n t₀ t u fits W F = ext-getD 0 u (zeroed 0 n t₀) sizes places
+  where
+    sizes : length u ≡ length (zeroed 0 n t₀)
+    sizes = F .size ∙ W .size ∙ sym (length-append (replicate {A = ℕ} n 0) (drop n t₀) ∙ omega (arith, length-replicate {A = ℕ} n 0, length-drop n t₀))
+
+    at : (i : ℕ) (b : Bool) → ltb i n ≡ b → getD u i 0 ≡ getD (zeroed 0 n t₀) i 0
+    at i true e =
+        let l = ltb-true i n e in
+        rw zero-add at (F .entry i l)
+        ∙ sym (List·getD-append (replicate {A = ℕ} n 0) (drop n t₀) 0 i (omega (arith, length-replicate {A = ℕ} n 0)) ∙ getD-replicate n i 0 0 l)
+    at i false e =
+        let l = ltb-false i n e in
+        let z : length (replicate {A = ℕ} n 0) + (i - n) ≡ i = omega (arith, length-replicate {A = ℕ} n 0) in
+        let w : n + (i - n) ≡ i = omega arith in
+        F .after i (omega arith) ∙ W .after i l
+        ∙ sym (ap (λ (k : ℕ). getD (zeroed 0 n t₀) k 0) (sym z) ∙ getD-append-add (replicate {A = ℕ} n 0) (drop n t₀) (i - n) 0 ∙ getD-drop n t₀ (i - n) 0 ∙ ap (λ (k : ℕ). getD t₀ k 0) w)
+
+    places : (i : ℕ) → i < length u → getD u i 0 ≡ getD (zeroed 0 n t₀) i 0
+    places i h = at i (ltb i n) refl
+
+module _ {A : Type 0} where
+  zeroed-suc : (z : A) (i : ℕ) (f : List A) → i < length f → set (zeroed z i f) i z ≡ zeroed z (suc i) f
+  zeroed-suc z i [] h = absurd (omega arith)
+  zeroed-suc z zero (x ∷ xs) h = refl
+  zeroed-suc z (suc i) (x ∷ xs) h = ap (λ (l : List A). z ∷ l) (zeroed-suc z i xs (omega arith))
+
+  pub zeroed-turn : (z : A) (i : ℕ) (f g : List A) → i < length f → g ≡ zeroed z i f → set g i z ≡ zeroed z (i + 1) f
+  zeroed-turn z i f g h e = ap (λ (l : List A). set l i z) e ∙ zeroed-suc z i f h ∙ ap (λ (k : ℕ). zeroed z k f) (sym (add-one i))
+
+  pub zeroed-length : (z : A) (n : ℕ) (f g : List A) → n ≤ length f → g ≡ zeroed z n f → length g ≡ length f
+  zeroed-length z n f g h e = ap length e ∙ length-append (replicate n z) (drop n f) ∙ omega (arith, length-replicate n z, length-drop n f)
+
+-- the scratch after a walk that changed only the places that are cleared
+pub zeroed-words : (n : ℕ) (t₀ t : List ℕ) → Kept 0 n t₀ t → zeroed 0 n t ≡ zeroed 0 n t₀
+zeroed-words n t₀ t K = ap (λ (l : List ℕ). replicate n 0 ++ l) (drop-same n t₀ t (K .size) (K .after))
+
+pub zeroed-past : {A : Type 0} (z : A) (m n : ℕ) (f₀ f : List A) → m ≤ n → drop m f ≡ drop m f₀ → zeroed z n f ≡ zeroed z n f₀
+zeroed-past z m n f₀ f h e =
+    let q : m + (n - m) ≡ n = omega arith in
+    ap (λ (l : List _). replicate n z ++ l)
+    (ap (λ (k : ℕ). drop k f) (sym q) ∙ sym (drop-drop (n - m) m f) ∙ ap (drop (n - m)) e ∙ drop-drop (n - m) m f₀ ∙ ap (λ (k : ℕ). drop k f₀) q)
+
+pub few-words : (h : Head) (w f : ℕ) → w < 8 * h .residues → true ≡ shortScratch h w f
+unfolding shortScratch
+few-words h w f l = rw (lt-ltb w (8 * h .residues) l)
+
+pub by-floats : (h : Head) (w f : ℕ) (x : Bool) → 8 * h .residues ≤ w → x ≡ ltb f (32 * h .residues) → x ≡ shortScratch h w f
+unfolding shortScratch
+by-floats h w f x l e = rw (le-ltb w (8 * h .residues) l) e
+
+pub long-words : (h : Head) (w f : ℕ) → shortScratch h w f ≡ false → 8 * h .residues ≤ w
+unfolding shortScratch
+long-words h w f e = ltb-false w (8 * h .residues) (or-left (ltb w (8 * h .residues)) _ e)
+  where
+    or-left : (a b : Bool) → (a || b) ≡ false → a ≡ false
+    or-left false b q = refl
+    or-left true b q = q
+
+pub long-floats : (h : Head) (w f : ℕ) → shortScratch h w f ≡ false → 32 * h .residues ≤ f
+unfolding shortScratch
+long-floats h w f e = ltb-false f (32 * h .residues) (or-last (ltb w (8 * h .residues)) _ e)
+  where
+    or-last : (a b : Bool) → (a || b) ≡ false → b ≡ false
+    or-last false b q = q
+    or-last true b q = let z : _≡_ {A = ℕ} 0 1 = cc in absurd (omega arith)
+
+pub or-left : (a b : Bool) → (a || b) ≡ false → a ≡ false
+or-left false b q = refl
+or-left true b q = q
+
+pub or-rest : (a b : Bool) → (a || b) ≡ false → b ≡ false
+or-rest false b q = q
+or-rest true b q = let z : _≡_ {A = ℕ} 0 1 = cc in absurd (omega arith)
+
+-- no buffer is too short: there is room
+pub roomy : (c : Counts) (l : Lent) (o : Outs) → l .positions ≡ length (o .positions) → l .normals ≡ length (o .normals) → l .tags ≡ length (o .tags)
+    → l .triangles ≡ length (o .triangles) → l .tubes ≡ length (o .tubes) → l .boxes ≡ length (o .boxes) → tight c l ≡ false
+    → Room (c .tubes) (c .vertices) (c .triangles) o
+unfolding tight
+roomy c l o p n g t r b e =
+    let e1 = or-rest (ltb (l .positions) (3 * c .vertices)) _ e in
+    let e2 = or-rest (ltb (l .normals) (3 * c .vertices)) _ e1 in
+    let e3 = or-rest (ltb (l .tags) (c .vertices)) _ e2 in
+    let e4 = or-rest (ltb (l .triangles) (3 * c .triangles)) _ e3 in
+    let e5 = or-rest (ltb (l .tubes) (5 * c .tubes)) _ e4 in
+    record {
+      positions = omega (arith, ltb-false (l .positions) (3 * c .vertices) (or-left (ltb (l .positions) (3 * c .vertices)) _ e));
+      normals = omega (arith, ltb-false (l .normals) (3 * c .vertices) (or-left (ltb (l .normals) (3 * c .vertices)) _ e1));
+      tags = omega (arith, ltb-false (l .tags) (c .vertices) (or-left (ltb (l .tags) (c .vertices)) _ e2));
+      triangles = omega (arith, ltb-false (l .triangles) (3 * c .triangles) (or-left (ltb (l .triangles) (3 * c .triangles)) _ e3));
+      tubes = omega (arith, ltb-false (l .tubes) (5 * c .tubes) (or-left (ltb (l .tubes) (5 * c .tubes)) _ e4));
+      boxes = omega (arith, ltb-false (l .boxes) (6 * c .tubes) e5);
+    }

@@ -1,0 +1,81 @@
+// Checks 9 and 11, and the scratch after a call that passed check 9.
+use job::Head;
+use walk::Totals;
+ghost use mathlib.Core.Path.{_≡_};
+ghost use Prim.Native.Nat.{_*_, _≤_};
+ghost use lib.ListN.{length};
+ghost use lib.Ieee.{binary32, ofBits};
+ghost use Rattle.walk.specs.Walk.{Small, allFrames};
+ghost use Rattle.room.specs.Room.{shortScratch, tight, zeroed, clearedWords, clearedFloats};
+
+// K, V and T.
+pub struct Counts {
+    pub tubes: usize,
+    pub vertices: usize,
+    pub triangles: usize,
+}
+
+// Plus zeros in the first n places.
+fn clear_floats(f: &mut [f32], n: usize)
+    requires { ⌜ n ≤ length (now f) ⌝ }
+    ensures { λ _. ⌜ now (f .exit) ≡ zeroed (ofBits binary32 0) n (now (f .entry)) ⌝ }
+{
+    let mut i = 0;
+    while i < n {
+        f[i] = 0.0;
+        i += 1;
+    }
+}
+
+// 01 fixes the scratch after every call that passes check 9.
+pub fn clear_scratch(h: Head, words: &mut [u32], floats: &mut [f32])
+    requires { ⌜ (h .residues ≤ 16384) × (8 * h .residues ≤ length (now words)) × (32 * h .residues ≤ length (now floats)) ⌝ }
+    ensures { λ _. ⌜ (now (words .exit) ≡ clearedWords h (now (words .entry))) × (now (floats .exit) ≡ clearedFloats h (now (floats .entry))) ⌝ }
+{
+    let n = h.residues as usize;
+    scratch::clear(words, 0, 8 * n);
+    clear_floats(floats, 32 * n);
+}
+
+// Check 9.
+pub fn is_short(h: Head, words: usize, floats: usize) -> bool
+    ensures { λ r. ⌜ r ≡ shortScratch h words floats ⌝ }
+{
+    let n = h.residues as usize;
+    if words < 8 * n {
+        return true;
+    }
+    floats < 32 * n
+}
+
+// Check 11: whether some output buffer is too short.
+pub fn is_tight(
+    t: Totals,
+    positions: usize,
+    normals: usize,
+    tags: usize,
+    triangles: usize,
+    records: usize,
+    boxes: usize,
+) -> bool
+    requires { ⌜ Small t allFrames ⌝ }
+    ensures { λ r. ⌜ r ≡ tight (record { tubes = t .tubes; vertices = t .vertices; triangles = t .triangles })
+        (record { positions = positions; normals = normals; tags = tags; triangles = triangles; tubes = records; boxes = boxes; words = 0; floats = 0 }) ⌝ }
+{
+    if positions < 3 * t.vertices {
+        return true;
+    }
+    if normals < 3 * t.vertices {
+        return true;
+    }
+    if tags < t.vertices {
+        return true;
+    }
+    if triangles < 3 * t.triangles {
+        return true;
+    }
+    if records < 5 * t.tubes {
+        return true;
+    }
+    boxes < 6 * t.tubes
+}

@@ -1,0 +1,16 @@
+-- What the tube call answers: 01, 'Shape of a tube'.
+use Prim.Native.Nat.{ℕ, _+_, _*_, _/_}
+use mathlib.Core.List.{List, []}
+use mathlib.Core.Bool.{cond, _&&_}
+use lib.ListN.{length, getD, take, drop}
+use lib.Dec.{ltb, leb}
+use Rattle.mesh.specs.Mesh.{triangleCount}
+
+-- 'That part is 3(128n-112) words from three times the tube's first triangle. It returns an empty part if k has no five words in the tube buffer,
+-- if n is not 2 to 16,384, or if the part would leave the buffer'
+unfoldable pub tubePart : List ℕ → List ℕ → ℕ → List ℕ
+tubePart tubes triangles k =
+    let n = getD tubes (5 * k + 2) 0 in
+    let from = 3 * getD tubes (5 * k + 4) 0 in
+    let size = 3 * triangleCount n in
+    cond (ltb k (length tubes / 5) && (leb 2 n && (leb n 16384 && leb (from + size) (length triangles)))) (take size (drop from triangles)) []

@@ -1,0 +1,27 @@
+// The tube call of 01. Nothing is demanded of whoever calls it.
+ghost use mathlib.Core.Path.{_≡_};
+ghost use Rattle.tube_call.specs.Part.{tubePart};
+
+// The part of the caller's own triangle buffer for tube k.
+pub fn tube<'a>(records: &[u32], triangles: &'a [u32], k: usize) -> &'a [u32]
+    ensures { λ r. ⌜ now r ≡ tubePart (now (records .entry)) (now (triangles .entry)) k ⌝ }
+{
+    let have = records.len() / 5;
+    if have <= k {
+        return &triangles[0..0];
+    }
+    let n = records[5 * k + 2] as usize;
+    let t = records[5 * k + 4] as usize;
+    if n < 2 {
+        return &triangles[0..0];
+    }
+    if 16384 < n {
+        return &triangles[0..0];
+    }
+    let from = 3 * t;
+    let end = from + 3 * (128 * n - 112);
+    if triangles.len() < end {
+        return &triangles[0..0];
+    }
+    &triangles[from..end]
+}
