@@ -10,7 +10,7 @@ use borrow.Author.Tests.{lt-ltb, le-ltb}
 use lib.ListN.{length, take, drop, length-append}
 use lib.Seq.{take-append-seam, drop-at}
 use Rattle.edges.specs.Sound.{occurs, EdgesPaired, Sound, Part}
-use Rattle.edges.specs.Tube.{rings, vertices, triangles, stack, tube, mesh, meshVertices, meshTriangles, renumbered}
+use Rattle.edges.specs.Tube.{rings, vertices, triangles, vertexCount, triangleCount, stack, tube, mesh, meshVertices, meshTriangles, renumbered}
 use Rattle.edges.proofs.Count.{lt-or-le}
 use Rattle.edges.proofs.Stack.{stack-size}
 use Rattle.edges.proofs.Glue.{recount, empty-sound, stack-sound, glue, glue-paired, unglue, unglue-sound, joined}
@@ -29,6 +29,12 @@ counts p d n h = simp (le-ltb n 2 h) (refl, refl, refl)
 -- 01's eight sides and eight divisions: 8(n-1)+1 rings, 64n-54 vertices, 128n-112 triangles
 pub ribbon-counts : (n : ℕ) → 2 ≤ n → (rings 8 n ≡ 8 * (n - 1) + 1) × (vertices 8 8 n ≡ 64 * n - 54) × (triangles 8 8 n ≡ 128 * n - 112)
 ribbon-counts n h = let c = counts 8 8 n h in (c .0, omega (arith, c .0, c .1), omega (arith, c .2))
+
+pub vertex-count : (n : ℕ) → 2 ≤ n → vertexCount n ≡ 64 * n - 54
+vertex-count n h = ribbon-counts n h .1
+
+pub triangle-count : (n : ℕ) → 2 ≤ n → triangleCount n ≡ 128 * n - 112
+triangle-count n h = ribbon-counts n h .2
 
 -- one residue, or none, gives none
 pub no-tube : (p d o n : ℕ) → n < 2 → (rings d n ≡ 0) × (vertices p d n ≡ 0) × (triangles p d n ≡ 0) × (tube p d o n ≡ [])

@@ -24,6 +24,13 @@ vertices p d n = fromTwo n 0 (p * (d * (n - 1) + 1) + 2)
 unfoldable pub triangles : ℕ → ℕ → ℕ → ℕ
 triangles p d n = fromTwo n 0 (2 * p * d * (n - 1) + 2 * p)
 
+-- of 01's tubes, which have eight sides and eight divisions: 64n-54 vertices and 128n-112 triangles (proofs/Theorems, `vertex-count` and `triangle-count`)
+abbrev pub vertexCount : ℕ → ℕ
+vertexCount n = vertices 8 8 n
+
+abbrev pub triangleCount : ℕ → ℕ
+triangleCount n = triangles 8 8 n
+
 -- ---- where the vertices are: 'Vertices: ring, start centre, later rings, end centre'
 
 -- the first vertex of ring j: the start centre stands between ring 0 and ring 1

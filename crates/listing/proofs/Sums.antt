@@ -15,6 +15,7 @@ use Rattle.tubes.specs.declared.Source.{Source}
 use Rattle.tubes.specs.declared.Source.the-variants.{Coils, Segment}
 use Rattle.tubes.proofs.Laws.{chosen-length}
 use Rattle.coils.proofs.Laws.{extended-few}
+use Rattle.edges.proofs.Theorems.{vertex-count, triangle-count}
 use Rattle.mesh.specs.Mesh.{sizeOf, vertexSum, triangleSum}
 use Rattle.listing.specs.Listing.{Every, frameSum, EachList}
 use Rattle.listing.proofs.Linked.{linked-from, pieces-linked}
@@ -110,12 +111,12 @@ module _ (J : Job) (far : ℕ → ℕ → Bool) where
 pub vertices-exact : (us : List Tube) → Every (λ u. 2 ≤ sizeOf u) us → vertexSum us + 54 * length us ≡ 64 * frameSum us
 unfolding vertexSum frameSum
 vertices-exact [] a = omega arith
-vertices-exact (u ∷ us) a = omega (arith, a .0, vertices-exact us (a .1))
+vertices-exact (u ∷ us) a = omega (arith, a .0, vertex-count (sizeOf u) (a .0), vertices-exact us (a .1))
 
 pub triangles-exact : (us : List Tube) → Every (λ u. 2 ≤ sizeOf u) us → triangleSum us + 112 * length us ≡ 128 * frameSum us
 unfolding triangleSum frameSum
 triangles-exact [] a = omega arith
-triangles-exact (u ∷ us) a = omega (arith, a .0, triangles-exact us (a .1))
+triangles-exact (u ∷ us) a = omega (arith, a .0, triangle-count (sizeOf u) (a .0), triangles-exact us (a .1))
 
 pub tubes-few : (us : List Tube) → Every (λ u. 2 ≤ sizeOf u) us → 2 * length us ≤ frameSum us
 unfolding frameSum

@@ -1,5 +1,5 @@
 -- The mesh of a list of tubes: what each tube gives to each of the six buffers, and these one after the other, with running starts.
-use Prim.Native.Nat.{ℕ, zero, suc, _+_, _*_, _-_}
+use Prim.Native.Nat.{ℕ, zero, suc, _+_}
 use mathlib.Core.List.{List, [], _∷_, _++_, map}
 use mathlib.Core.Bool.{cond}
 use lib.ListN.{length, getD}
@@ -14,11 +14,11 @@ use Rattle.shape.specs.declared.Oxygen.{Oxygen}
 use Rattle.shape.specs.declared.Oxygen.the-variants.{At, Missing}
 use Rattle.skin.specs.Tube.{positionsOf, normalsOf, tagsOf}
 use Rattle.boxes.specs.Box.{boxOf}
-use Rattle.edges.specs.Tube.{tube}
+use Rattle.edges.specs.Tube.{vertexCount, triangleCount, tube}
 use Rattle.tubes.specs.Tubes.{Tube, alphaOf, oxygenOf}
 use Rattle.mesh.specs.Protein.{Protein}
 
--- ---- a tube: its counts, its kind, its atoms
+-- ---- a tube: its size, its kind, its atoms
 
 -- 'first residue, residues n'
 abbrev pub firstOf : Tube → ℕ
@@ -26,13 +26,6 @@ firstOf u = getD (u .residues) 0 0
 
 abbrev pub sizeOf : Tube → ℕ
 sizeOf u = length (u .residues)
-
--- demand 3: 'A tube of n residues has 64n-54 vertices and 128n-112 triangles'
-abbrev pub vertexCount : ℕ → ℕ
-vertexCount n = 64 * n - 54
-
-abbrev pub triangleCount : ℕ → ℕ
-triangleCount n = 128 * n - 112
 
 -- 'kind (0 coil, 1 helix, 2 sheet)'
 unfoldable pub kindOf : ℕ → Kind

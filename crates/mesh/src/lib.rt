@@ -11,7 +11,8 @@ ghost use Rattle.buffers.specs.Put.{put};
 ghost use Rattle.job.specs.Layout.{Whole};
 ghost use Rattle.places.specs.Places.{placeOf};
 ghost use Rattle.mesh.specs.Outs.{Room, outs, writtenBy, Atoms};
-ghost use Rattle.mesh.specs.Mesh.{vertexCount, triangleCount, kindOf, spotOf, spots};
+ghost use Rattle.mesh.specs.Mesh.{kindOf, spotOf, spots};
+ghost use Rattle.edges.specs.Tube.{vertexCount, triangleCount};
 
 // A tube's kind by its number in the job.
 fn kind_of(kind: usize) -> Kind

@@ -8,7 +8,7 @@ use lib.Dec.{ltb, leb}
 use lib.ListN.{length, take, drop, getD, length-drop}
 use lib.Seq.{length-take-le}
 use borrow.Author.Tests.{ltb-true, leb-true, ne-eqb}
-use Rattle.mesh.specs.Mesh.{triangleCount}
+use Rattle.edges.specs.Tube.{triangleCount}
 use Rattle.tube_call.specs.Part.{tubePart}
 use Rattle.ribbon_c.specs.Parts.{Part}
 

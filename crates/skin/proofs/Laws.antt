@@ -9,7 +9,7 @@ use lib.ListN.{length, take, drop, length-append}
 use borrow.Author.Tests.{lt-ltb}
 use lib.Seq.{take-at, drop-at, length-take-le}
 use Rattle.vectors.specs.declared.Vec3.{Vec3}
-use Rattle.vectors.specs.Vec.{floats}
+use Rattle.vectors.specs.Vec.{floats, vecAt}
 use Rattle.buffers.specs.Put.{put, upto}
 use Rattle.buffers.proofs.Puts.{next, turn, kept, length-upto}
 use Rattle.shape.specs.declared.Kind.{Kind}
@@ -21,8 +21,10 @@ use Rattle.course.specs.declared.Frame.{Frame}
 use Rattle.course.specs.Samples.{spanOf, spanAt, paramAt, frameOf, frameAt}
 use Rattle.course.specs.Residues.{oxygenAt, guidesOf, pointsOf}
 use Rattle.course.proofs.Laws.{rest, length-guides-of, length-points-of}
+use Rattle.edges.specs.Tube.{vertexCount}
+use Rattle.edges.proofs.Theorems.{vertex-count}
 use Rattle.skin.specs.Post.{Room, Wrote, Course, Residues}
-use Rattle.skin.specs.Tube.{vertexCount, ordered, eight, ringPositions, ringNormals, ringTags, skinPositions, skinNormals, positionsOf, normalsOf, tagsOf}
+use Rattle.skin.specs.Tube.{ordered, eight, ringPositions, ringNormals, ringTags, skinPositions, skinNormals, positionsOf, normalsOf, tagsOf}
 
 -- the three buffers at once: one write after another
 pub wrote-next : {p₀ n₀ : List Float} {t₀ : List ℕ} {p n p′ n′ : List Float} {t t′ : List ℕ} (v w : ℕ) (x x′ y y′ : List Float) (z z′ : List ℕ)
@@ -132,19 +134,19 @@ length-ordered c d n ring start end hr hs he =
     simp (length-append, hr, hs, he, lu)
 
 -- a tube has vertexCount n vertices in each of the three
-pub length-positions-of : (kind : Kind) (ca : List Float) (o : ℕ → Oxygen) (n : ℕ) → length (positionsOf kind ca o n) ≡ 3 * vertexCount n
+pub length-positions-of : (kind : Kind) (ca : List Float) (o : ℕ → Oxygen) (n : ℕ) → 2 ≤ n → length (positionsOf kind ca o n) ≡ 3 * vertexCount n
 unfolding positionsOf skinPositions
-length-positions-of kind ca o n =
-    length-ordered 24 3 n _ _ _ (length-positions kind (pointsOf kind ca n) (guidesOf kind ca o n) n) refl refl ∙ omega arith
+length-positions-of kind ca o n two =
+    length-ordered 24 3 n _ _ _ (length-positions kind (pointsOf kind ca n) (guidesOf kind ca o n) n) refl refl ∙ omega (arith, vertex-count n two)
 
-pub length-normals-of : (kind : Kind) (ca : List Float) (o : ℕ → Oxygen) (n : ℕ) → length (normalsOf kind ca o n) ≡ 3 * vertexCount n
+pub length-normals-of : (kind : Kind) (ca : List Float) (o : ℕ → Oxygen) (n : ℕ) → 2 ≤ n → length (normalsOf kind ca o n) ≡ 3 * vertexCount n
 unfolding normalsOf skinNormals
-length-normals-of kind ca o n =
-    length-ordered 24 3 n _ _ _ (length-normals kind (pointsOf kind ca n) (guidesOf kind ca o n) n) refl refl ∙ omega arith
+length-normals-of kind ca o n two =
+    length-ordered 24 3 n _ _ _ (length-normals kind (pointsOf kind ca n) (guidesOf kind ca o n) n) refl refl ∙ omega (arith, vertex-count n two)
 
-pub length-tags-of : (first n : ℕ) → length (tagsOf first n) ≡ vertexCount n
+pub length-tags-of : (first n : ℕ) → 2 ≤ n → length (tagsOf first n) ≡ vertexCount n
 unfolding tagsOf
-length-tags-of first n = length-ordered 8 1 n _ _ _ (length-tags first n) refl refl ∙ omega arith
+length-tags-of first n two = length-ordered 8 1 n _ _ _ (length-tags first n) refl refl ∙ omega (arith, vertex-count n two)
 
 -- one buffer, written in three parts: the first ring with the start's centre, the rings between, and the last ring with the end's centre. A
 -- ring fills c places and a centre d

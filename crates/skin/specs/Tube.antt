@@ -11,10 +11,6 @@ use Rattle.shape.specs.declared.Oxygen.{Oxygen}
 use Rattle.course.specs.Residues.{guidesOf, pointsOf}
 use Rattle.course.specs.Samples.{frameAt, ringAt, tagAt}
 
--- rings of eight at 8(n-1)+1 samples, and two centres
-abbrev pub vertexCount : ℕ → ℕ
-vertexCount n = 64 * (n - 1) + 10
-
 -- 01: 'Vertices: ring, start centre, later rings, end centre'
 unfoldable pub ordered : {A : Type 0} → ℕ → (ℕ → List A) → List A → List A → List A
 ordered n ring start end = ((ring 0 ++ start) ++ upto (λ (s : ℕ). ring (s + 1)) (8 * (n - 1))) ++ end

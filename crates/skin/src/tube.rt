@@ -23,7 +23,8 @@ ghost use Rattle.vectors.specs.Vec.{floats};
 ghost use Rattle.buffers.specs.Put.{upto};
 ghost use Rattle.course.specs.Residues.{oxygenAt, guidesOf, pointsOf};
 ghost use Rattle.course.specs.Samples.{frameAt, tagAt};
-ghost use Rattle.skin.specs.Tube.{vertexCount, ringPositions, ringNormals, ringTags, startNormal, endNormal, skinPositions, skinNormals, positionsOf, normalsOf, tagsOf};
+ghost use Rattle.edges.specs.Tube.{vertexCount};
+ghost use Rattle.skin.specs.Tube.{ringPositions, ringNormals, ringTags, startNormal, endNormal, skinPositions, skinNormals, positionsOf, normalsOf, tagsOf};
 ghost use Rattle.skin.specs.Post.{Room, Wrote, Course, Residues};
 
 // The first ring and the start's centre.

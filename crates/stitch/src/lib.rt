@@ -3,7 +3,7 @@ ghost use mathlib.Core.Path.{_≡_};
 ghost use Prim.Native.Nat.{_+_, _-_, _*_, _<_, _≤_};
 ghost use lib.ListN.{length};
 ghost use Rattle.buffers.specs.Put.{put};
-ghost use Rattle.edges.specs.Tube.{capSide, cap, band, tube};
+ghost use Rattle.edges.specs.Tube.{vertexCount, triangleCount, capSide, cap, band, tube};
 use buffers::put_words;
 
 // A cap's triangle at one side: this side's vertex i0 and the next side's i1, the other way round where the cap is inward.
@@ -61,8 +61,8 @@ fn append_ring_and_stitch(triangles: &mut [u32], at: usize, a: u32, b: u32)
 // The triangles of a tube of n residues, whose vertices are numbered from first on. There are 128n - 112 of them, written from place at on, over
 // 64n - 54 vertices, within 01's limit of 1,048,576.
 pub fn tube_triangles(triangles: &mut [u32], at: usize, first: u32, n: u32)
-    requires { ⌜ at + 3 * (128 * n - 112) ≤ length (now triangles) ⌝ }
-    requires { ⌜ (2 ≤ n) × (first + (64 * n - 54) ≤ 1048576) ⌝ }
+    requires { ⌜ at + 3 * triangleCount n ≤ length (now triangles) ⌝ }
+    requires { ⌜ (2 ≤ n) × (first + vertexCount n ≤ 1048576) ⌝ }
     ensures { λ _. ⌜ now (triangles .exit) ≡ put (now (triangles .entry)) at (tube 8 8 first n) ⌝ }
 {
     let bands = 8 * (n - 1);

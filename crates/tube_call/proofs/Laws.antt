@@ -6,6 +6,7 @@ use mathlib.Core.Path.{_≡_, refl}
 use native.Mathlib.Omega.{arith}
 use lib.ListN.{length, getD, take, drop}
 use borrow.Author.Tests.{lt-ltb, le-ltb, lt-leb, le-leb}
+use Rattle.edges.specs.Tube.{triangleCount}
 use Rattle.tube_call.specs.Part.{tubePart}
 
 module _ (tubes triangles : List ℕ) (k : ℕ) where
@@ -25,14 +26,14 @@ module _ (tubes triangles : List ℕ) (k : ℕ) where
   unfolding tubePart
   part-many h = rw (lt-leb (getD tubes (5 * k + 2) 0) 16384 h, and-none, and-none)
 
-  pub part-out : length triangles < 3 * getD tubes (5 * k + 4) 0 + 3 * (128 * getD tubes (5 * k + 2) 0 - 112) → [] ≡ tubePart tubes triangles k
+  pub part-out : length triangles < 3 * getD tubes (5 * k + 4) 0 + 3 * triangleCount (getD tubes (5 * k + 2) 0) → [] ≡ tubePart tubes triangles k
   unfolding tubePart
-  part-out h = rw (lt-leb (3 * getD tubes (5 * k + 4) 0 + 3 * (128 * getD tubes (5 * k + 2) 0 - 112)) (length triangles) h, and-none, and-none, and-none)
+  part-out h = rw (lt-leb (3 * getD tubes (5 * k + 4) 0 + 3 * triangleCount (getD tubes (5 * k + 2) 0)) (length triangles) h, and-none, and-none, and-none)
 
   pub part-in : k < length tubes / 5 → 2 ≤ getD tubes (5 * k + 2) 0 → getD tubes (5 * k + 2) 0 ≤ 16384
-      → 3 * getD tubes (5 * k + 4) 0 + 3 * (128 * getD tubes (5 * k + 2) 0 - 112) ≤ length triangles
-      → take (3 * getD tubes (5 * k + 4) 0 + 3 * (128 * getD tubes (5 * k + 2) 0 - 112) - 3 * getD tubes (5 * k + 4) 0) (drop (3 * getD tubes (5 * k + 4) 0) triangles) ≡ tubePart tubes triangles k
+      → 3 * getD tubes (5 * k + 4) 0 + 3 * triangleCount (getD tubes (5 * k + 2) 0) ≤ length triangles
+      → take (3 * getD tubes (5 * k + 4) 0 + 3 * triangleCount (getD tubes (5 * k + 2) 0) - 3 * getD tubes (5 * k + 4) 0) (drop (3 * getD tubes (5 * k + 4) 0) triangles) ≡ tubePart tubes triangles k
   unfolding tubePart
   part-in a b c d =
-      let z : 3 * getD tubes (5 * k + 4) 0 + 3 * (128 * getD tubes (5 * k + 2) 0 - 112) - 3 * getD tubes (5 * k + 4) 0 ≡ 3 * (128 * getD tubes (5 * k + 2) 0 - 112) = omega arith in
-      rw (z, lt-ltb k (length tubes / 5) a, le-leb 2 (getD tubes (5 * k + 2) 0) b, le-leb (getD tubes (5 * k + 2) 0) 16384 c, le-leb (3 * getD tubes (5 * k + 4) 0 + 3 * (128 * getD tubes (5 * k + 2) 0 - 112)) (length triangles) d)
+      let z : 3 * getD tubes (5 * k + 4) 0 + 3 * triangleCount (getD tubes (5 * k + 2) 0) - 3 * getD tubes (5 * k + 4) 0 ≡ 3 * triangleCount (getD tubes (5 * k + 2) 0) = omega arith in
+      rw (z, lt-ltb k (length tubes / 5) a, le-leb 2 (getD tubes (5 * k + 2) 0) b, le-leb (getD tubes (5 * k + 2) 0) 16384 c, le-leb (3 * getD tubes (5 * k + 4) 0 + 3 * triangleCount (getD tubes (5 * k + 2) 0)) (length triangles) d)

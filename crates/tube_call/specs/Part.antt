@@ -4,7 +4,7 @@ use mathlib.Core.List.{List, []}
 use mathlib.Core.Bool.{cond, _&&_}
 use lib.ListN.{length, getD, take, drop}
 use lib.Dec.{ltb, leb}
-use Rattle.mesh.specs.Mesh.{triangleCount}
+use Rattle.edges.specs.Tube.{triangleCount}
 
 -- 'That part is 3(128n-112) words from three times the tube's first triangle. It returns an empty part if k has no five words in the tube buffer,
 -- if n is not 2 to 16,384, or if the part would leave the buffer'

@@ -19,7 +19,7 @@ pub fn tube<'a>(records: &[u32], triangles: &'a [u32], k: usize) -> &'a [u32]
         return &triangles[0..0];
     }
     let from = 3 * t;
-    let end = from + 3 * (128 * n - 112);
+    let end = from + 3 * edges::triangle_count(n);
     if triangles.len() < end {
         return &triangles[0..0];
     }

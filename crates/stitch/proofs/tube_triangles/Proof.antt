@@ -7,6 +7,7 @@ use borrow.Author.Needs.{needs}
 use Rattle.buffers.specs.Put.{put, upto}
 use Rattle.buffers.proofs.Puts.{turn, kept}
 use Rattle.edges.specs.Tube.{ring, band, bandAt}
+use Rattle.edges.proofs.Theorems.{vertex-count, triangle-count}
 use Rattle.edges.proofs.Stack.{band-size}
 use Rattle.stitch.proofs.Assembly.{assembled}
 use Rattle.stitch.proofs.tube_triangles.Statement.{statement}
@@ -24,7 +25,7 @@ unfolding put upto ring
 loop-holds c = (omega arith, omega arith, refl, omega arith, omega arith, omega arith, refl)
 
 append-ring-and-stitch-requires : tie.Need-append-ring-and-stitch-requires Inv-loop μ-loop
-append-ring-and-stitch-requires c κs = (omega (arith, kept _ _ _ (c .before .before .loop .inv .6), kept _ _ _ (c .before .before .before .before .before .emit-cap .ensures)), omega arith)
+append-ring-and-stitch-requires c κs = (omega (arith, triangle-count (c .before .before .before .before .before .before .before .before .args .n) (c .before .before .before .before .before .before .before .before .pre .1 .0), kept _ _ _ (c .before .before .loop .inv .6), kept _ _ _ (c .before .before .before .before .before .emit-cap .ensures)), omega (arith, vertex-count (c .before .before .before .before .before .before .before .before .args .n) (c .before .before .before .before .before .before .before .before .pre .1 .0)))
 
 add-place-2 : tie.Need-add-place-2 Inv-loop μ-loop
 add-place-2 c = omega (arith, kept _ _ _ (c .before .before .before .before .before .loop .inv .6), kept _ _ _ (c .before .before .before .before .before .before .before .before .emit-cap .ensures))
@@ -43,7 +44,7 @@ loop-again c = let loop = c .before .before .before .before .before .loop in
     )
 
 emit-cap-requires-2 : tie.Need-emit-cap-requires-2 Inv-loop μ-loop
-emit-cap-requires-2 c κs = (omega (arith, kept _ _ _ (c .before .before .loop .inv .6), kept _ _ _ (c .before .before .before .before .before .emit-cap .ensures)), omega arith)
+emit-cap-requires-2 c κs = (omega (arith, triangle-count (c .before .before .before .before .before .before .before .before .args .n) (c .before .before .before .before .before .before .before .before .pre .1 .0), kept _ _ _ (c .before .before .loop .inv .6), kept _ _ _ (c .before .before .before .before .before .emit-cap .ensures)), omega (arith, vertex-count (c .before .before .before .before .before .before .before .before .args .n) (c .before .before .before .before .before .before .before .before .pre .1 .0)))
 
 same-length : tie.Need-same-length Inv-loop μ-loop
 same-length c = kept _ _ _ (c .before .before .emit-cap2 .ensures) ∙ kept _ _ _ (c .before .before .before .before .before .loop .inv .6) ∙ kept _ _ _ (c .before .before .before .before .before .before .before .before .emit-cap .ensures)
@@ -54,6 +55,24 @@ returns c = let loop = c .before .before .before .before .before .loop in
     assembled 8 8 (args .first) (args .n) _ _ _ (args .at) (loop .j) _ _ _ _ (omega arith) (omega arith)
     (c .before .before .before .before .before .before .before .before .emit-cap .ensures) (loop .inv .6) (c .before .before .emit-cap2 .ensures) refl (omega arith) (omega arith) (loop .inv .2)
 
+mul-bands : tie.Need-mul-bands Inv-loop μ-loop
+mul-bands c = omega (arith, vertex-count (c .before .args .n) (c .before .pre .1 .0))
+
+emit-cap-requires : tie.Need-emit-cap-requires Inv-loop μ-loop
+emit-cap-requires c κs = (omega (arith, triangle-count (c .before .before .args .n) (c .before .before .pre .1 .0)), omega (arith, vertex-count (c .before .before .args .n) (c .before .before .pre .1 .0)))
+
+add-place : tie.Need-add-place Inv-loop μ-loop
+add-place c = omega (arith, triangle-count (c .before .before .before .before .before .args .n) (c .before .before .before .before .before .pre .1 .0))
+
+add-b : tie.Need-add-b Inv-loop μ-loop
+add-b c = omega (arith, vertex-count (c .before .before .before .before .before .args .n) (c .before .before .before .before .before .pre .1 .0))
+
+add-b-2 : tie.Need-add-b-2 Inv-loop μ-loop
+add-b-2 c = omega (arith, vertex-count (c .before .before .before .before .before .before .before .before .before .before .before .args .n) (c .before .before .before .before .before .before .before .before .before .before .before .pre .1 .0))
+
+add-j : tie.Need-add-j Inv-loop μ-loop
+add-j c = omega (arith, vertex-count (c .before .before .before .before .before .before .before .before .before .before .before .args .n) (c .before .before .before .before .before .before .before .before .before .before .before .pre .1 .0))
+
 pub tube-triangles-spec : {M : Type 1} → statement M
 tube-triangles-spec =
     tie.close
@@ -61,16 +80,16 @@ tube-triangles-spec =
     Inv-loop
     μ-loop
     (λ c. search needs)
+    mul-bands
     (λ c. search needs)
-    (λ c. search needs)
-    (λ c κs. search needs)
-    (λ c. search needs)
-    (λ c. search needs)
+    emit-cap-requires
+    add-place
+    add-b
     loop-holds
     append-ring-and-stitch-requires
     add-place-2
-    (λ c. search needs)
-    (λ c. search needs)
+    add-b-2
+    add-j
     (λ c. search needs)
     loop-again
     emit-cap-requires-2

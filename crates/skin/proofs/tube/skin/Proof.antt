@@ -1,21 +1,25 @@
+use Rattle.skin.proofs.Laws.{less, whole, room, same-room}
+use Rattle.edges.proofs.Theorems.{vertex-count}
 use borrow.Author.Needs.{needs}
 use mathlib.Core.Path.{refl}
 use native.Mathlib.Omega.{arith}
 use denote.Ref.{now}
 use Rattle.skin.specs.Tube.{skinPositions, skinNormals, tagsOf}
-use Rattle.skin.proofs.Laws.{whole, room, same-room}
 use Rattle.skin.proofs.tube.skin.Statement.{statement}
 use Rattle.skin.proofs.tube.skin.Tie as tie
 
 later-rings-requires : tie.Need-later-rings-requires
-later-rings-requires c κs = (c .before .before .before .before .before .before .before .before .before .before .before .before .before .before .before .before .before .before .pre .0, room _ _ _ _ _ (c .before .before .before .before .before .before .before .before .before .start-cap .ensures) (c .before .before .before .before .before .before .before .before .before .before .before .before .before .before .before .before .before .before .pre .1) _ (omega (arith, c .before .before .before .before .before .before .before .before .before .before .before .before .before .before .before .before .before .before)))
+later-rings-requires c κs = (c .before .before .before .before .before .before .before .before .before .before .before .before .before .before .before .before .before .before .pre .0, room _ _ _ _ _ (c .before .before .before .before .before .before .before .before .before .start-cap .ensures) (c .before .before .before .before .before .before .before .before .before .before .before .before .before .before .before .before .before .before .pre .1) _ (omega (arith, vertex-count (c .before .before .before .before .before .before .before .before .before .before .before .before .before .before .before .before .before .before .args .n) (c .before .before .before .before .before .before .before .before .before .before .before .before .before .before .before .before .before .before .pre .0 .two), c .before .before .before .before .before .before .before .before .before .before .before .before .before .before .before .before .before .before .pre .0 .two)))
 
 end-cap-requires : tie.Need-end-cap-requires
-end-cap-requires c κs = (c .before .before .before .before .before .before .before .before .before .before .before .before .before .before .before .before .before .before .before .before .before .before .before .before .before .before .before .before .pre .0, room _ _ _ _ _ (c .before .before .before .before .before .before .before .before .before .later-rings .ensures) (same-room _ _ _ _ (c .before .before .before .before .before .before .before .before .before .before .before .before .before .before .before .before .before .before .before .start-cap .ensures) (c .before .before .before .before .before .before .before .before .before .before .before .before .before .before .before .before .before .before .before .before .before .before .before .before .before .before .before .before .pre .1)) _ (omega (arith, c .before .before .before .before .before .before .before .before .before .before .before .before .before .before .before .before .before .before .before .before .before .before .before .before .before .before .before .before)))
+end-cap-requires c κs = (c .before .before .before .before .before .before .before .before .before .before .before .before .before .before .before .before .before .before .before .before .before .before .before .before .before .before .before .before .pre .0, room _ _ _ _ _ (c .before .before .before .before .before .before .before .before .before .later-rings .ensures) (same-room _ _ _ _ (c .before .before .before .before .before .before .before .before .before .before .before .before .before .before .before .before .before .before .before .start-cap .ensures) (c .before .before .before .before .before .before .before .before .before .before .before .before .before .before .before .before .before .before .before .before .before .before .before .before .before .before .before .before .pre .1)) _ (omega (arith, vertex-count (c .before .before .before .before .before .before .before .before .before .before .before .before .before .before .before .before .before .before .before .before .before .before .before .before .before .before .before .before .args .n) (c .before .before .before .before .before .before .before .before .before .before .before .before .before .before .before .before .before .before .before .before .before .before .before .before .before .before .before .before .pre .0 .two), c .before .before .before .before .before .before .before .before .before .before .before .before .before .before .before .before .before .before .before .before .before .before .before .before .before .before .before .before .pre .0 .two)))
 
 returns : tie.Need-returns
 unfolding skinPositions skinNormals tagsOf
 returns c = whole (c .before .before .before .before .before .before .before .before .before .before .before .before .before .before .before .before .before .before .before .before .before .before .before .before .before .before .before .before .before .before .before .before .before .before .before .args .kind) (now (c .before .before .before .before .before .before .before .before .before .before .before .before .before .before .before .before .before .before .before .before .before .before .before .before .before .before .before .before .before .before .before .before .before .before .before .args .points)) (now (c .before .before .before .before .before .before .before .before .before .before .before .before .before .before .before .before .before .before .before .before .before .before .before .before .before .before .before .before .before .before .before .before .before .before .before .args .guides)) (c .before .before .before .before .before .before .before .before .before .before .before .before .before .before .before .before .before .before .before .before .before .before .before .before .before .before .before .before .before .before .before .before .before .before .before .args .n) (c .before .before .before .before .before .before .before .before .before .before .before .before .before .before .before .before .before .before .before .before .before .before .before .before .before .before .before .before .before .before .before .before .before .before .before .args .first) _ _ _ _ _ _ (c .before .before .before .before .before .before .before .before .before .before .before .before .before .before .before .before .before .before .before .before .before .before .before .before .before .before .before .before .before .before .before .before .before .before .before .args .v) _ _ (c .before .before .before .before .before .before .before .before .before .before .before .before .before .before .before .before .before .before .before .before .before .before .before .before .before .before .before .before .before .before .before .before .before .before .before .pre .0 .two) refl refl (c .before .before .before .before .before .before .before .before .before .before .before .before .before .before .before .before .before .before .before .before .before .before .before .before .before .before .start-cap .ensures) (c .before .before .before .before .before .before .before .before .before .before .before .before .before .before .before .before .later-rings .ensures) (c .before .before .before .before .before .before .end-cap .ensures)
+
+start-cap-requires : tie.Need-start-cap-requires
+start-cap-requires c κs = (c .before .before .before .before .before .before .before .before .pre .0, less _ _ (c .before .before .before .before .before .before .before .before .pre .1) (omega (arith, vertex-count (c .before .before .before .before .before .before .before .before .args .n) (c .before .before .before .before .before .before .before .before .pre .0 .two), c .before .before .before .before .before .before .before .before .pre .0 .two)))
 
 pub skin-spec : {M : Type 1} → statement M
 skin-spec =
@@ -27,7 +31,7 @@ skin-spec =
     (λ c. search needs)
     (λ c. search needs)
     (λ c. search needs)
-    (λ c κs. search needs)
+    start-cap-requires
     later-rings-requires
     end-cap-requires
     (λ c. search needs)
