@@ -27,7 +27,7 @@ use Rattle.pdb_survey.proofs.Walk.{noted-whole}
 use Rattle.pdb_survey.specs.declared.Counts.{Counts}
 use Rattle.pdb_survey.specs.declared.Overview.{Overview}
 use Rattle.pdb_reader.specs.Counted.{Counted}
-use Rattle.pdb_reader.proofs.AtFault.{clean-is}
+use Rattle.pdb_faults.proofs.AtFault.{clean-is, all-ahead}
 use Rattle.appearance.proofs.Holding.{empty-index}
 use Rattle.pdb_reader.specs.Structure.{Structure, chainsOf, residuesOf, sizeOf, toSegment, toAtom, jobOf, structureOf}
 use Rattle.pdb_reader.specs.Call.{pastLimits, byFault, readChecks, readAnswer, readBy, bufferAfter}
@@ -147,28 +147,10 @@ empty-tables = noted-whole _ _ _ _ _ [] refl (record {
   chains = record { size = length-replicate {A = ℕ} 256 0; count = refl; mark = λ x l. getD-replicate {A = ℕ} 256 x 0 0 l };
 })
 
--- where no line is at fault, every segment stands ahead
-own-clean-all : (n : ℕ) (rs : List Record) → isClean (ownFaults n rs) ≡ true → ahead rs ≡ length (segments rs)
-unfolding ownFaults ahead segments
-own-clean-all n [] e = refl
-own-clean-all n (Skipped ∷ rs) e = ap (λ (k : ℕ). 0 + k) (own-clean-all (n + 1) rs e) ∙ omega arith
-own-clean-all n (Short ∷ rs) e = absurd (let z : _≡_ {A = ℕ} 0 1 = cc in omega arith)
-own-clean-all n (BadNumber ∷ rs) e = absurd (let z : _≡_ {A = ℕ} 0 1 = cc in omega arith)
-own-clean-all n (AnAtom a ∷ rs) e = ap (λ (k : ℕ). 0 + k) (own-clean-all (n + 1) rs e) ∙ omega arith
-own-clean-all n (ASegment g ∷ rs) e = ap (λ (k : ℕ). 1 + k) (own-clean-all (n + 1) rs e) ∙ omega arith
-
-clean-own : (ats : List AtomLine) (n : ℕ) (rs : List Record) → isClean (faults ats n rs) ≡ true → isClean (ownFaults n rs) ≡ true
-unfolding ownFaults faults
-clean-own ats n [] e = refl
-clean-own ats n (Skipped ∷ rs) e = clean-own ats (n + 1) rs e
-clean-own ats n (Short ∷ rs) e = e
-clean-own ats n (BadNumber ∷ rs) e = e
-clean-own ats n (AnAtom a ∷ rs) e = clean-own ats (n + 1) rs e
-clean-own ats n (ASegment g ∷ rs) e = clean-own ats (n + 1) rs (passed (present ats g) e)
-  where
-    passed : (b : Bool) → isClean (firstOf (cond b Clean (NoResidue n)) (faults ats (n + 1) rs)) ≡ true → isClean (faults ats (n + 1) rs) ≡ true
-    passed true q = q
-    passed false q = absurd (let z : _≡_ {A = ℕ} 0 1 = cc in omega arith)
+-- tables that did not change
+pub noted-same : (keys keys′ links links′ ends marks : List ℕ) (c : Counts) (l : List AtomLine) → Noted keys links ends marks c l → keys′ ≡ keys → links′ ≡ links
+    → Noted keys′ links′ ends marks c l
+noted-same keys keys′ links links′ ends marks c l N e f = rw (e, f) N
 
 pub surveyed-counts : (s keys links ends marks : List ℕ) (v : Overview) → Surveyed s keys links ends marks v → isClean (faultIn s) ≡ true → Counted (structureOf s) (v .counts) (v .ahead)
 surveyed-counts s keys links ends marks v S e = record {
@@ -176,7 +158,7 @@ surveyed-counts s keys links ends marks v S e = record {
   few = λ m. omega (arith, S .noted .known .index .few, S .noted .known .all m .count);
   chains = λ m. S .noted .whole m .chains .count;
   residues = λ m. S .noted .known .all m .count;
-  segments-are = S .ahead-is ∙ own-clean-all 1 (records s) (clean-own (atomsOf s) 1 (records s) e);
+  segments-are = S .ahead-is ∙ all-ahead s e;
   atoms = λ m. S .noted .whole m .atoms;
 }
 

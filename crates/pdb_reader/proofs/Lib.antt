@@ -1,5 +1,3 @@
-pub mod AtFault
-pub mod Wanted
 pub mod Writing
 pub mod Answers
 pub mod Passes

@@ -2,4 +2,3 @@ pub mod Structure
 pub mod Call
 pub mod Counted
 pub mod Parts
-pub mod Wanted

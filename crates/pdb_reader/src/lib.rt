@@ -1,6 +1,4 @@
 // The public call `read_pdb`: from the bytes of a PDB file to a version 1 job in a lent buffer, or one refusal.
-pub mod faults;
-pub mod past;
 pub mod records;
 
 use job::Refusal;
@@ -126,7 +124,7 @@ pub fn read_pdb(s: &[u8], out: &mut [u8]) -> Read
     let c = v.counts;
     let own = v.fault;
     let segments = v.ahead;
-    let f = faults::find_fault(s, &mut keys, &mut links, c.residues, c.more, own, segments);
+    let f = pdb_faults::find_fault(s, &mut keys, &mut links, c.residues, c.more, own, segments);
     if c.more {
         return by_fault(f, Read::NoJob(Refusal::PastLimits));
     }

@@ -1,7 +1,6 @@
 use mathlib.Core.Path.{sym, _∙_, ap}
 use Rattle.pdb_reading.specs.Faults.{isClean}
-use Rattle.pdb_reader.proofs.AtFault.{noted-same}
-use Rattle.pdb_reader.proofs.Answers.{empty-tables, surveyed-counts, residues-past, refused, right, clash}
+use Rattle.pdb_reader.proofs.Answers.{empty-tables, noted-same, surveyed-counts, residues-past, refused, right, clash}
 use borrow.Author.Needs.{needs}
 use Rattle.pdb_reader.proofs.read_pdb.Statement.{statement}
 use Rattle.pdb_reader.proofs.read_pdb.Tie as tie

@@ -1,7 +1,7 @@
 use mathlib.Core.Path.{sym, _∙_}
 use borrow.Author.Needs.{needs}
-use Rattle.pdb_reader.proofs.faults.fault_of.Statement.{statement}
-use Rattle.pdb_reader.proofs.faults.fault_of.Tie as tie
+use Rattle.pdb_faults.proofs.fault_of.Statement.{statement}
+use Rattle.pdb_faults.proofs.fault_of.Tie as tie
 
 returns : tie.Need-returns
 returns c = simp (c .before .before .before .before .before .r .given .1, sym (c .before .before .before .is-present .ensures) ∙ c .before .before .if1 .taken, sym (c .before .is-present2 .ensures) ∙ c .if2 .taken)

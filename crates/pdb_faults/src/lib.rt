@@ -1,4 +1,6 @@
 // The first line at fault, found with the tables of a survey.
+pub mod past;
+
 use pdb_reading::Fault;
 use pdb_reading::Next;
 use pdb_records::Record;
@@ -9,7 +11,7 @@ ghost use Rattle.pdb_reading.specs.Reading.{records, atomsOf, names};
 ghost use Rattle.pdb_reading.specs.Faults.{firstAtom, isFound, faultOf, faultIn};
 ghost use Rattle.pdb_survey.specs.Lines.{ownFaults, ahead};
 ghost use Rattle.pdb_survey.specs.Tables.{Known};
-ghost use Rattle.pdb_reader.specs.Wanted.{Wanted};
+ghost use Rattle.pdb_faults.specs.Wanted.{Wanted};
 
 // Whether the file has an atom of this residue. One that is not in the index is absent, unless there are more: then the file is searched.
 fn is_present(
@@ -88,7 +90,7 @@ pub fn find_fault(
         let Next::Got(r, a, v) = next else {
             return own;
         };
-        n = crate::past::refresh(s, at, seen, keys, links, &mut bits, n, more, r);
+        n = past::refresh(s, at, seen, keys, links, &mut bits, n, more, r);
         let f = fault_of(s, keys, links, &bits, n, more, line, r);
         if pdb_reading::is_clean(f) {
             left -= pdb_survey::count_segment(Fault::Clean, r);

@@ -8,11 +8,11 @@ use Rattle.pdb_reading.specs.Reading.{rest, atomsOf, names}
 use Rattle.pdb_reading.specs.Faults.{faultIn, faults}
 use Rattle.pdb_reading.proofs.Laws.{stepped-done, stepped-got}
 use Rattle.pdb_survey.specs.Lines.{ownFaults, ahead}
-use Rattle.pdb_reader.specs.Wanted.{Wanted}
-use Rattle.pdb_reader.proofs.AtFault.{keyed-same, fault-here, fault-on, none-left, own-on, ahead-on, no-ahead}
-use Rattle.pdb_reader.proofs.Wanted.{all-known}
-use Rattle.pdb_reader.proofs.faults.find_fault.Statement.{statement}
-use Rattle.pdb_reader.proofs.faults.find_fault.Tie as tie
+use Rattle.pdb_faults.specs.Wanted.{Wanted}
+use Rattle.pdb_faults.proofs.AtFault.{keyed-same, fault-here, fault-on, none-left, own-on, ahead-on, no-ahead}
+use Rattle.pdb_faults.proofs.Wanted.{all-known}
+use Rattle.pdb_faults.proofs.find_fault.Statement.{statement}
+use Rattle.pdb_faults.proofs.find_fault.Tie as tie
 
 abbrev Inv-loop : tie.InvT-loop
 Inv-loop s keys₀ links₀ count more own segments bits₀ n₀ at₀ seen₀ line₀ left₀ keys links bits n at seen line left = (at ≤ length s) × (line ≤ at + 1) × (faultIn s ≡ faults (atomsOf s) line (rest s at seen)) × (own ≡ ownFaults line (rest s at seen)) × (left ≡ ahead (rest s at seen)) × (Wanted keys links bits n (names (atomsOf s))) × (more ≡ false → (keys ≡ keys₀) × (links ≡ links₀) × (n ≡ count))

@@ -11,13 +11,11 @@ use Rattle.appearance.proofs.Numbers.{found-number, number-none}
 use Rattle.pdb_records.specs.declared.AtomLine.{AtomLine}
 use Rattle.pdb_records.specs.declared.Record.{Record}
 use Rattle.pdb_records.specs.declared.Record.the-variants.{Skipped, Short, BadNumber, AnAtom, ASegment}
-use Rattle.pdb_reading.specs.Reading.{names, segmentsIn}
-use Rattle.pdb_reading.specs.Faults.{firstAtom, isFound, faultOf, faults, firstOf, isClean}
+use Rattle.pdb_reading.specs.Reading.{records, atomsOf, segments, segmentsIn, segmentsOf, names}
+use Rattle.pdb_reading.specs.Faults.{firstAtom, isFound, present, faultOf, faults, firstOf, faultIn, isClean}
 use Rattle.pdb_reading.specs.declared.Fault.{Fault}
 use Rattle.pdb_reading.specs.declared.Fault.the-variants.{Clean, LineShort, LineWrong, NoResidue}
 use Rattle.pdb_survey.specs.Lines.{ownFault, ownFaults, ahead, counted}
-use Rattle.pdb_survey.specs.Tables.{Noted}
-use Rattle.pdb_survey.specs.declared.Counts.{Counts}
 use Rattle.pdb_survey.proofs.Atoms.{found-member}
 
 -- ---- a residue that is not in an index of all
@@ -27,10 +25,6 @@ found-not keys n l K x p e h = sym (found-member x l ∙ number-none (names l) x
 -- tables that did not change
 pub keyed-same : (keys keys′ : List ℕ) (n n′ : ℕ) (l : List ℕ) → Keyed keys n l → keys′ ≡ keys → n′ ≡ n → Keyed keys′ n′ l
 keyed-same keys keys′ n n′ l K e f = rw (e, f) K
-
-pub noted-same : (keys keys′ links links′ ends marks : List ℕ) (c : Counts) (l : List AtomLine) → Noted keys links ends marks c l → keys′ ≡ keys → links′ ≡ links
-    → Noted keys′ links′ ends marks c l
-noted-same keys keys′ links links′ ends marks c l N e f = rw (e, f) N
 
 -- ---- the first line at fault, line by line
 pub clean-is : (f : Fault) → isClean f ≡ true → f ≡ Clean
@@ -91,3 +85,29 @@ no-ahead rs e = ap ahead e
 
 pub none-left : (ats : List AtomLine) (n : ℕ) (rs : List Record) (all own : Fault) → all ≡ faults ats n rs → own ≡ ownFaults n rs → ahead rs ≡ 0 → own ≡ all
 none-left ats n rs all own e q z = q ∙ none-ahead ats n rs z ∙ sym e
+
+-- ---- where no line is at fault, every segment stands ahead
+own-clean-all : (n : ℕ) (rs : List Record) → isClean (ownFaults n rs) ≡ true → ahead rs ≡ length (segments rs)
+unfolding ownFaults ahead segments
+own-clean-all n [] e = refl
+own-clean-all n (Skipped ∷ rs) e = ap (λ (k : ℕ). 0 + k) (own-clean-all (n + 1) rs e) ∙ omega arith
+own-clean-all n (Short ∷ rs) e = absurd (let z : _≡_ {A = ℕ} 0 1 = cc in omega arith)
+own-clean-all n (BadNumber ∷ rs) e = absurd (let z : _≡_ {A = ℕ} 0 1 = cc in omega arith)
+own-clean-all n (AnAtom a ∷ rs) e = ap (λ (k : ℕ). 0 + k) (own-clean-all (n + 1) rs e) ∙ omega arith
+own-clean-all n (ASegment g ∷ rs) e = ap (λ (k : ℕ). 1 + k) (own-clean-all (n + 1) rs e) ∙ omega arith
+
+clean-own : (ats : List AtomLine) (n : ℕ) (rs : List Record) → isClean (faults ats n rs) ≡ true → isClean (ownFaults n rs) ≡ true
+unfolding ownFaults faults
+clean-own ats n [] e = refl
+clean-own ats n (Skipped ∷ rs) e = clean-own ats (n + 1) rs e
+clean-own ats n (Short ∷ rs) e = e
+clean-own ats n (BadNumber ∷ rs) e = e
+clean-own ats n (AnAtom a ∷ rs) e = clean-own ats (n + 1) rs e
+clean-own ats n (ASegment g ∷ rs) e = clean-own ats (n + 1) rs (passed (present ats g) e)
+  where
+    passed : (b : Bool) → isClean (firstOf (cond b Clean (NoResidue n)) (faults ats (n + 1) rs)) ≡ true → isClean (faults ats (n + 1) rs) ≡ true
+    passed true q = q
+    passed false q = absurd (let z : _≡_ {A = ℕ} 0 1 = cc in omega arith)
+
+pub all-ahead : (s : List ℕ) → isClean (faultIn s) ≡ true → ahead (records s) ≡ length (segmentsOf s)
+all-ahead s e = own-clean-all 1 (records s) (clean-own (atomsOf s) 1 (records s) e)

@@ -1,9 +1,9 @@
 use native.Mathlib.Omega.{arith}
-use Rattle.pdb_reader.proofs.Wanted.{bit-tells}
-use Rattle.pdb_reader.proofs.AtFault.{found-not}
+use Rattle.pdb_faults.proofs.Wanted.{bit-tells}
+use Rattle.pdb_faults.proofs.AtFault.{found-not}
 use borrow.Author.Needs.{needs}
-use Rattle.pdb_reader.proofs.faults.is_present.Statement.{statement}
-use Rattle.pdb_reader.proofs.faults.is_present.Tie as tie
+use Rattle.pdb_faults.proofs.is_present.Statement.{statement}
+use Rattle.pdb_faults.proofs.is_present.Tie as tie
 
 element-copy-out-result : tie.Need-element-copy-out-result
 element-copy-out-result c = omega (arith, c .before .find .ensures .1, c .before .before .before .pre .0 .index .few)

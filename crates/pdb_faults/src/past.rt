@@ -9,7 +9,7 @@ ghost use lib.ListN.{length, getD};
 ghost use Rattle.appearance.specs.Index.{Index};
 ghost use Rattle.pdb_records.specs.declared.AtomLine.{AtomLine};
 ghost use Rattle.pdb_reading.specs.Reading.{atomsIn, atomsOf, names};
-ghost use Rattle.pdb_reader.specs.Wanted.{Wanted};
+ghost use Rattle.pdb_faults.specs.Wanted.{Wanted};
 
 // An empty index.
 fn forget(links: &mut [usize; 32768])

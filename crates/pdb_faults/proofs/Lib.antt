@@ -1,0 +1,2 @@
+pub mod AtFault
+pub mod Wanted
