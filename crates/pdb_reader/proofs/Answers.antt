@@ -1,35 +1,28 @@
 -- The answers of the call, rung by rung. Assumes nothing.
-use Prim.Native.Nat.{ℕ, _+_, _*_, _<_, _≤_}
-use mathlib.Core.Bool.{Bool, true, false, cond}
+use Prim.Native.Nat.{ℕ, _<_, _≤_}
+use mathlib.Core.Bool.{Bool, true, false}
 use mathlib.Core.Path.{_≡_, refl, sym, ap, _∙_, subst}
-use mathlib.Core.List.{List, [], _∷_, map}
+use mathlib.Core.List.{List, []}
 use native.Mathlib.Omega.{arith}
 use lib.Dec.{ltb}
-use lib.ListN.{length, replicate, length-map, length-replicate, getD-replicate}
+use lib.ListN.{length, replicate, length-replicate, getD-replicate}
 use borrow.Author.Tests.{lt-ltb, le-ltb, ltb-false}
 use Rattle.job.specs.Search.{last}
 use Rattle.job.specs.declared.Refusal.the-variants.{PastLimits, NoJobRoom}
-use Rattle.buffers.specs.Put.{put}
 use Rattle.appearance.proofs.Laws.{or-true, or-no}
 use Rattle.appearance.specs.Order.{member, distinct, numbered}
-use Rattle.job_writer.specs.Job.{flat, segmentBytes, atomBytes, headBytes}
-use Rattle.job_writer.proofs.Laws.{job-made}
+use Rattle.appearance.proofs.Holding.{empty-index}
 use Rattle.pdb_records.specs.declared.AtomLine.{AtomLine}
-use Rattle.pdb_records.specs.declared.Record.{Record}
-use Rattle.pdb_records.specs.declared.Record.the-variants.{Skipped, Short, BadNumber, AnAtom, ASegment}
-use Rattle.pdb_reading.specs.Reading.{records, segments, atomsOf, letters}
-use Rattle.pdb_reading.specs.Faults.{faultIn, faults, isClean, firstOf, present}
+use Rattle.pdb_reading.specs.Faults.{faultIn, isClean}
 use Rattle.pdb_reading.specs.declared.Fault.{Fault}
 use Rattle.pdb_reading.specs.declared.Fault.the-variants.{Clean, LineShort, LineWrong, NoResidue}
-use Rattle.pdb_survey.specs.Lines.{ownFaults, ahead}
-use Rattle.pdb_survey.specs.Tables.{Marks, Noted, Surveyed}
+use Rattle.pdb_survey.specs.Tables.{Noted, Surveyed}
 use Rattle.pdb_survey.proofs.Walk.{noted-whole}
 use Rattle.pdb_survey.specs.declared.Counts.{Counts}
 use Rattle.pdb_survey.specs.declared.Overview.{Overview}
-use Rattle.pdb_reader.specs.Counted.{Counted}
+use Rattle.pdb_job.specs.Structure.{Structure, chainsOf, residuesOf, sizeOf, structureOf}
+use Rattle.pdb_job.specs.Counted.{Counted, Limited}
 use Rattle.pdb_faults.proofs.AtFault.{clean-is, all-ahead}
-use Rattle.appearance.proofs.Holding.{empty-index}
-use Rattle.pdb_reader.specs.Structure.{Structure, chainsOf, residuesOf, sizeOf, toSegment, toAtom, jobOf, structureOf}
 use Rattle.pdb_reader.specs.Call.{pastLimits, byFault, readChecks, readAnswer, readBy, bufferAfter}
 use Rattle.pdb_reader.specs.declared.Read.{Read}
 use Rattle.pdb_reader.specs.declared.Read.the-variants.{Written, NoJob}
@@ -38,12 +31,6 @@ pub clash : _≡_ {A = Bool} true false → ⊥
 clash e = let z : _≡_ {A = ℕ} 0 1 = cc in omega arith
 
 -- ---- 15: the limits
-pub record Limited (x : Structure) : Type 0 where
-  pub chains : chainsOf (x .atoms) ≤ 255
-  pub residues : residuesOf (x .atoms) ≤ 16384
-  pub segments-are : length (x .segments) ≤ 65535
-  pub atoms : length (x .atoms) ≤ 65535
-
 pub limited : (x : Structure) → pastLimits x ≡ false → Limited x
 unfolding pastLimits
 limited x e =
@@ -71,14 +58,6 @@ module _ (x : Structure) (c : Counts) (g : ℕ) (C : Counted x c g) where
   pub past-residues : c .more ≡ true → true ≡ pastLimits x
   past-residues e = sym (residues-past x (C .past e))
 
-  -- a file within the limits has no more residues than the tables
-  pub not-more : pastLimits x ≡ false → c .more ≡ false
-  not-more e = go (c .more) refl
-    where
-      go : (b : Bool) → c .more ≡ b → c .more ≡ false
-      go true q = absurd (clash (past-residues q ∙ e))
-      go false q = q
-
   module _ (m : c .more ≡ false) where
     few : ltb 16384 (residuesOf (x .atoms)) ≡ false
     few = le-ltb 16384 (residuesOf (x .atoms)) (C .few m)
@@ -95,27 +74,6 @@ module _ (x : Structure) (c : Counts) (g : ℕ) (C : Counted x c g) where
       pub past-atoms : g ≤ 65535 → ltb 65535 (c .atoms) ≡ pastLimits x
       unfolding pastLimits
       past-atoms h = rw (within 255 (C .chains m) h₁, few, within 65535 (C .segments-are) h, C .atoms m)
-
-    pub size-is : 13 + c .chains + 9 * g + 33 * c .atoms ≡ sizeOf x
-    size-is = rw (C .chains m, C .segments-are, C .atoms m)
-
-    pub marks-are : (marks : List ℕ) → Marks marks (c .chains) (letters (x .atoms)) → Marks marks (chainsOf (x .atoms)) (letters (x .atoms))
-    marks-are marks M = subst (λ (n : ℕ). Marks marks n (letters (x .atoms))) (C .chains m) M
-
-    -- the counts are within the limits, and so is every sum of them
-    pub within-limits : pastLimits x ≡ false → (c .chains ≤ 255) × (g ≤ 65535) × (c .atoms ≤ 65535)
-    within-limits e =
-        let L = limited x e in
-        (omega (arith, C .chains m, L .chains), omega (arith, C .segments-are, L .segments-are), omega (arith, C .atoms m, L .atoms))
-
-    -- ---- the job's four parts
-    pub written : (out b₁ b₂ b₄ : List ℕ) → b₁ ≡ put out 0 (headBytes 1 33 (c .chains) (c .residues) g (c .atoms)) → b₂ ≡ put b₁ 13 (replicate (c .chains) 1)
-        → b₄ ≡ put (put b₂ (13 + c .chains) (flat segmentBytes (map (toSegment (x .atoms)) (x .segments)))) (13 + c .chains + 9 * g) (flat atomBytes (map (toAtom (x .atoms)) (x .atoms))) → b₄ ≡ put out 0 (jobOf x)
-    unfolding jobOf
-    written out b₁ b₂ b₄ e₁ e₂ e₄ =
-        rw (← C .chains m, ← C .residues m)
-        (job-made 1 33 atomBytes (c .chains) (c .residues) g (c .atoms) (map (toSegment (x .atoms)) (x .segments)) (map (toAtom (x .atoms)) (x .atoms))
-        (C .segments-are ∙ sym (length-map (x .segments) (toSegment (x .atoms)))) (C .atoms m ∙ sym (length-map (x .atoms) (toAtom (x .atoms)))) out b₁ b₂ _ b₄ e₁ e₂ refl e₄)
 
 -- ---- 15 and 16
 module _ (x : Structure) (out : List ℕ) where

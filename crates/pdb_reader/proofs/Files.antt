@@ -30,7 +30,7 @@ use Rattle.pdb_reading.specs.Reading.{stops, saw, reading, records, atomsIn, at
 use Rattle.pdb_reading.specs.Faults.{faultOf, firstOf, faults, faultIn}
 use Rattle.pdb_reading.specs.declared.Fault.{Fault}
 use Rattle.pdb_reading.specs.declared.Fault.the-variants.{Clean, LineShort, LineWrong, NoResidue}
-use Rattle.pdb_reader.specs.Structure.{Structure, sizeOf, jobOf, structureOf, pdbJob}
+use Rattle.pdb_job.specs.Structure.{Structure, sizeOf, jobOf, structureOf, pdbJob}
 use Rattle.pdb_reader.specs.Call.{pastLimits, byFault, readChecks, readAnswer, readBy, bufferAfter}
 use Rattle.pdb_reader.specs.declared.Read.{Read}
 use Rattle.pdb_reader.specs.declared.Read.the-variants.{Written, NoJob}

@@ -1,4 +1,3 @@
-pub mod Writing
 pub mod Answers
 pub mod Passes
 pub mod Small

@@ -9,7 +9,7 @@ use Rattle.job.specs.declared.Refusal.the-variants.{ShortLine, BadNumber, Absen
 use Rattle.pdb_reading.specs.Faults.{faultIn}
 use Rattle.pdb_reading.specs.declared.Fault.{Fault}
 use Rattle.pdb_reading.specs.declared.Fault.the-variants.{Clean, LineShort, LineWrong, NoResidue}
-use Rattle.pdb_reader.specs.Structure.{Structure, chainsOf, residuesOf, sizeOf, structureOf, pdbJob}
+use Rattle.pdb_job.specs.Structure.{Structure, chainsOf, residuesOf, sizeOf, structureOf, pdbJob}
 use Rattle.pdb_reader.specs.declared.Read.{Read}
 use Rattle.pdb_reader.specs.declared.Read.the-variants.{Written, NoJob}
 

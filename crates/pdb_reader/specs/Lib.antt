@@ -1,4 +1,1 @@
-pub mod Structure
 pub mod Call
-pub mod Counted
-pub mod Parts

@@ -1,20 +1,14 @@
 // The public call `read_pdb`: from the bytes of a PDB file to a version 1 job in a lent buffer, or one refusal.
-pub mod records;
-
 use job::Refusal;
 use pdb_reading::Fault;
 use pdb_survey::Counts;
 ghost use mathlib.Core.Path.{_≡_};
-ghost use mathlib.Core.List.{List};
-ghost use mathlib.Core.Bool.{false};
-ghost use Prim.Native.Nat.{ℕ, _+_, _*_, _<_, _≤_};
 ghost use lib.ListN.{length};
-ghost use Rattle.buffers.specs.Put.{put};
 ghost use Rattle.pdb_reading.specs.Reading.{atomsOf};
-ghost use Rattle.pdb_survey.specs.Tables.{Whole, Noted};
-ghost use Rattle.pdb_reader.specs.Structure.{Structure, sizeOf, structureOf, pdbJob};
+ghost use Rattle.pdb_survey.specs.Tables.{Noted};
+ghost use Rattle.pdb_job.specs.Structure.{Structure, structureOf};
 ghost use Rattle.pdb_reader.specs.Call.{pastLimits, byFault, readChecks, readAnswer, readBy, bufferAfter};
-ghost use Rattle.pdb_reader.specs.Counted.{Counted};
+ghost use Rattle.pdb_job.specs.Counted.{Counted};
 
 // The size of the job that was written, or a refusal.
 pub enum Read {
@@ -35,45 +29,6 @@ fn is_past_limits(c: Counts, segments: usize) -> bool
         return true;
     }
     65535 < c.atoms
-}
-
-// The job of a file with no fault, in a buffer with room for it.
-fn write_job(
-    s: &[u8],
-    keys: &[u64; 16384],
-    links: &[usize; 32768],
-    ends: &[u64; 32768],
-    marks: &[usize; 256],
-    c: Counts,
-    segments: usize,
-    out: &mut [u8],
-)
-    requires { ⌜ (Noted (now keys) (now links) (now ends) (now marks) c (atomsOf (now s))) × (Counted (structureOf (now s)) c segments) × (pastLimits (structureOf (now s)) ≡ false) × (sizeOf (structureOf (now s)) ≤ length (now out)) ⌝ }
-    ensures { λ _. ⌜ now (out .exit) ≡ put (now (out .entry)) 0 (pdbJob (now (s .entry))) ⌝ }
-{
-    let chains = c.chains;
-    job_writer::put_head(
-        out,
-        1,
-        33,
-        chains as u64,
-        c.residues as u64,
-        segments as u64,
-        c.atoms as u64,
-    );
-    job_writer::put_visible(out, 13, chains);
-    let first = 13 + chains;
-    records::write_records(
-        s,
-        keys,
-        links,
-        ends,
-        marks,
-        c.residues,
-        out,
-        first,
-        first + 9 * segments,
-    );
 }
 
 // Checks 15 and 16 of a file with no fault, and its job.
@@ -97,7 +52,7 @@ fn read_right(
     if out.len() < size {
         return Read::NoJob(Refusal::NoJobRoom(size));
     }
-    write_job(s, keys, links, ends, marks, c, segments, out);
+    pdb_job::write_job(s, keys, links, ends, marks, c, segments, out);
     Read::Written(size)
 }
 

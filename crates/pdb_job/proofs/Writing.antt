@@ -31,9 +31,9 @@ use Rattle.pdb_reading.specs.declared.Found.{Found}
 use Rattle.pdb_reading.specs.declared.Found.the-variants.{Nowhere, Serial}
 use Rattle.pdb_survey.specs.Tables.{Residues, Marks}
 use Rattle.pdb_survey.proofs.Atoms.{found-member}
-use Rattle.pdb_reader.specs.Structure.{toAtom, toSegment, residueOrder, chainOrder, chainsOf}
-use Rattle.pdb_reader.specs.Parts.{segmentsFrom, atomsFrom, Held}
-use Rattle.pdb_reader.specs.declared.records.Places.{Places}
+use Rattle.pdb_job.specs.Structure.{toAtom, toSegment, residueOrder, chainOrder, chainsOf}
+use Rattle.pdb_job.specs.Parts.{segmentsFrom, atomsFrom, Held}
+use Rattle.pdb_job.specs.declared.records.Places.{Places}
 
 -- ---- a residue that is not there has no first atom and no last
 nowhere : (f : Found) → isFound f ≡ false → f ≡ Nowhere

@@ -1,8 +1,8 @@
 use native.Mathlib.Omega.{arith}
-use Rattle.pdb_reader.proofs.Writing.{first-serial, last-serial, segment-made}
+use Rattle.pdb_job.proofs.Writing.{first-serial, last-serial, segment-made}
 use borrow.Author.Needs.{needs}
-use Rattle.pdb_reader.proofs.records.to_segment.Statement.{statement}
-use Rattle.pdb_reader.proofs.records.to_segment.Tie as tie
+use Rattle.pdb_job.proofs.records.to_segment.Statement.{statement}
+use Rattle.pdb_job.proofs.records.to_segment.Tie as tie
 
 find-requires : tie.Need-find-requires
 find-requires c κs = search needs

@@ -3,9 +3,9 @@ use Prim.Native.Nat.{_-_}
 use native.Mathlib.Omega.{arith}
 use lib.ListN.{length}
 use Rattle.pdb_reading.proofs.Laws.{stepped-done, stepped-got}
-use Rattle.pdb_reader.proofs.Writing.{Writing, writing-start, writing-over, writing-held, writing-segment, writing-atom, writing-more}
-use Rattle.pdb_reader.proofs.records.write_records.Statement.{statement}
-use Rattle.pdb_reader.proofs.records.write_records.Tie as tie
+use Rattle.pdb_job.proofs.Writing.{Writing, writing-start, writing-over, writing-held, writing-segment, writing-atom, writing-more}
+use Rattle.pdb_job.proofs.records.write_records.Statement.{statement}
+use Rattle.pdb_job.proofs.records.write_records.Tie as tie
 
 abbrev Inv-loop : tie.InvT-loop
 Inv-loop s keys links ends marks n out₀ first second at₀ seen₀ places₀ out at seen places = Writing s out₀ first second out at seen places

@@ -3,8 +3,8 @@ use mathlib.Core.Path.{ap}
 use native.Mathlib.Omega.{arith}
 use lib.ListN.{getD}
 use borrow.Author.Needs.{needs}
-use Rattle.pdb_reader.proofs.records.serial_at.Statement.{statement}
-use Rattle.pdb_reader.proofs.records.serial_at.Tie as tie
+use Rattle.pdb_job.proofs.records.serial_at.Statement.{statement}
+use Rattle.pdb_job.proofs.records.serial_at.Tie as tie
 
 returns : tie.Need-returns
 returns c = (λ e. search needs, λ i e. absurd (omega (arith, c .if1 .taken)))

@@ -9,7 +9,7 @@ use Rattle.job_writer.specs.Job.{flat, segmentBytes, atomBytes}
 use Rattle.pdb_records.specs.declared.Record.{Record}
 use Rattle.pdb_records.specs.declared.AtomLine.{AtomLine}
 use Rattle.pdb_reading.specs.Reading.{atoms, atomsIn, segments}
-use Rattle.pdb_reader.specs.Structure.{toAtom, toSegment}
+use Rattle.pdb_job.specs.Structure.{toAtom, toSegment}
 
 -- their segments, one after another
 abbrev pub segmentsFrom : List AtomLine → List Record → List ℕ

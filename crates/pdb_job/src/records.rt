@@ -14,8 +14,8 @@ ghost use Rattle.job.specs.Search.{last};
 ghost use Rattle.buffers.specs.Put.{put};
 ghost use Rattle.pdb_reading.specs.Reading.{records, atomsIn, segmentsIn, atomsOf, segmentsOf, names, letters};
 ghost use Rattle.pdb_survey.specs.Tables.{Residues, Marks};
-ghost use Rattle.pdb_reader.specs.Structure.{toAtom, toSegment, chainsOf};
-ghost use Rattle.pdb_reader.specs.Parts.{Held, segmentsFrom, atomsFrom};
+ghost use Rattle.pdb_job.specs.Structure.{toAtom, toSegment, chainsOf};
+ghost use Rattle.pdb_job.specs.Parts.{Held, segmentsFrom, atomsFrom};
 
 // What the table `ends` has from place `base` on for the residue numbered `p` from 1; 0 for none.
 fn serial_at(ends: &[u64; 32768], base: usize, p: usize) -> u64

@@ -1,10 +1,10 @@
 use native.Mathlib.Omega.{arith}
 use mathlib.Core.Path.{ap}
 use Rattle.pdb_reading.specs.Reading.{atomsIn, segmentsIn}
-use Rattle.pdb_reader.proofs.Writing.{segment-room, atom-room, counts-are, wrote-segment, wrote-atom, wrote-none}
+use Rattle.pdb_job.proofs.Writing.{segment-room, atom-room, counts-are, wrote-segment, wrote-atom, wrote-none}
 use borrow.Author.Needs.{needs}
-use Rattle.pdb_reader.proofs.records.write_record.Statement.{statement}
-use Rattle.pdb_reader.proofs.records.write_record.Tie as tie
+use Rattle.pdb_job.proofs.records.write_record.Statement.{statement}
+use Rattle.pdb_job.proofs.records.write_record.Tie as tie
 
 put-segment-requires : tie.Need-put-segment-requires
 put-segment-requires c κs = segment-room _ _ _ _ (c .before .before .before .r .given .1) (c .before .before .before .before .before .before .pre .2)

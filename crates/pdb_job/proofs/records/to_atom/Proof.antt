@@ -1,10 +1,10 @@
 use native.Mathlib.Omega.{arith}
 use mathlib.Core.Path.{refl, subst, sym}
 use Prim.Native.Nat.{ℕ, _<_}
-use Rattle.pdb_reader.proofs.Writing.{atom-made}
+use Rattle.pdb_job.proofs.Writing.{atom-made}
 use borrow.Author.Needs.{needs}
-use Rattle.pdb_reader.proofs.records.to_atom.Statement.{statement}
-use Rattle.pdb_reader.proofs.records.to_atom.Tie as tie
+use Rattle.pdb_job.proofs.records.to_atom.Statement.{statement}
+use Rattle.pdb_job.proofs.records.to_atom.Tie as tie
 
 find-requires : tie.Need-find-requires
 find-requires c κs = search needs

@@ -1,0 +1,3 @@
+pub mod Structure
+pub mod Counted
+pub mod Parts
