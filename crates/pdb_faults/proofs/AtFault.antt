@@ -11,10 +11,10 @@ use Rattle.appearance.proofs.Numbers.{found-number, number-none}
 use Rattle.pdb_records.specs.declared.AtomLine.{AtomLine}
 use Rattle.pdb_records.specs.declared.Record.{Record}
 use Rattle.pdb_records.specs.declared.Record.the-variants.{Skipped, Short, BadNumber, AnAtom, ASegment}
-use Rattle.pdb_reading.specs.Reading.{records, atomsOf, segments, segmentsIn, segmentsOf, names}
-use Rattle.pdb_reading.specs.Faults.{firstAtom, isFound, present, faultOf, faults, firstOf, faultIn, isClean}
-use Rattle.pdb_reading.specs.declared.Fault.{Fault}
-use Rattle.pdb_reading.specs.declared.Fault.the-variants.{Clean, LineShort, LineWrong, NoResidue}
+use Rattle.pdb_file.specs.Reading.{records, atomsOf, segments, segmentsIn, segmentsOf, names}
+use Rattle.pdb_file.specs.Faults.{firstAtom, isFound, present, faultOf, faults, firstOf, faultIn, isClean}
+use Rattle.pdb_file.specs.declared.Fault.{Fault}
+use Rattle.pdb_file.specs.declared.Fault.the-variants.{Clean, LineShort, LineWrong, NoResidue}
 use Rattle.pdb_survey.specs.Lines.{ownFault, ownFaults, ahead, counted}
 use Rattle.pdb_survey.proofs.Atoms.{found-member}
 

@@ -15,9 +15,9 @@ use Rattle.appearance.proofs.Found.{last-le, last-taken}
 use Rattle.appearance.proofs.Laws.{member-append, or-true}
 use Rattle.pdb_records.specs.declared.AtomLine.{AtomLine}
 use Rattle.pdb_records.specs.declared.Record.{Record}
-use Rattle.pdb_reading.specs.Reading.{rest, atoms, atomsIn, atomsOf, names}
-use Rattle.pdb_reading.specs.Faults.{firstAtom, isFound}
-use Rattle.pdb_reading.specs.Steps.{Onward}
+use Rattle.pdb_file.specs.Reading.{rest, atoms, atomsIn, atomsOf, names}
+use Rattle.pdb_file.specs.Faults.{firstAtom, isFound}
+use Rattle.pdb_file.specs.Steps.{Onward}
 use Rattle.pdb_survey.proofs.Atoms.{found-member, names-more}
 use Rattle.pdb_survey.specs.Tables.{Known}
 use Rattle.pdb_faults.specs.Wanted.{Wanted}

@@ -1,14 +1,14 @@
 // The first line at fault, found with the tables of a survey.
 pub mod past;
 
-use pdb_reading::Fault;
-use pdb_reading::Next;
+use pdb_file::Fault;
+use pdb_file::Next;
 use pdb_records::Record;
 ghost use mathlib.Core.Path.{_≡_};
 ghost use mathlib.Core.Bool.{false};
 ghost use Rattle.appearance.specs.Index.{Keyed};
-ghost use Rattle.pdb_reading.specs.Reading.{records, atomsOf, names};
-ghost use Rattle.pdb_reading.specs.Faults.{firstAtom, isFound, faultOf, faultIn};
+ghost use Rattle.pdb_file.specs.Reading.{records, atomsOf, names};
+ghost use Rattle.pdb_file.specs.Faults.{firstAtom, isFound, faultOf, faultIn};
 ghost use Rattle.pdb_survey.specs.Lines.{ownFaults, ahead};
 ghost use Rattle.pdb_survey.specs.Tables.{Known};
 ghost use Rattle.pdb_faults.specs.Wanted.{Wanted};
@@ -31,7 +31,7 @@ fn is_present(
         return bits[p - 1] == 1;
     }
     if more {
-        return pdb_reading::is_present(s, name);
+        return pdb_file::is_present(s, name);
     }
     false
 }
@@ -86,13 +86,13 @@ pub fn find_fault(
     let mut line = 1;
     let mut left = segments;
     while 0 < left {
-        let next = pdb_reading::step(s, at, seen);
+        let next = pdb_file::step(s, at, seen);
         let Next::Got(r, a, v) = next else {
             return own;
         };
         n = past::refresh(s, at, seen, keys, links, &mut bits, n, more, r);
         let f = fault_of(s, keys, links, &bits, n, more, line, r);
-        if pdb_reading::is_clean(f) {
+        if pdb_file::is_clean(f) {
             left -= pdb_survey::count_segment(Fault::Clean, r);
             line += 1;
             at = a;

@@ -1,5 +1,5 @@
 // A file with more residues than the tables of a survey hold: the residues that its segments name are looked for, many of them in one walk.
-use pdb_reading::Next;
+use pdb_file::Next;
 use pdb_records::Record;
 ghost use mathlib.Core.Path.{_≡_};
 ghost use mathlib.Core.Bool.{true, false};
@@ -8,7 +8,7 @@ ghost use Prim.Native.Nat.{ℕ, _≤_};
 ghost use lib.ListN.{length};
 ghost use Rattle.appearance.specs.Index.{Index};
 ghost use Rattle.pdb_records.specs.declared.AtomLine.{AtomLine};
-ghost use Rattle.pdb_reading.specs.Reading.{atomsIn, atomsOf, names};
+ghost use Rattle.pdb_file.specs.Reading.{atomsIn, atomsOf, names};
 ghost use Rattle.pdb_faults.specs.Wanted.{Wanted};
 
 // An empty index.
@@ -87,7 +87,7 @@ fn gather(
     let mut model = seen;
     let mut n = 0;
     while n < 16383 {
-        let next = pdb_reading::step(s, from, model);
+        let next = pdb_file::step(s, from, model);
         let Next::Got(r, a, v) = next else {
             return n;
         };
@@ -112,7 +112,7 @@ fn note_atoms(
     let mut at = 0;
     let mut seen = false;
     loop {
-        let next = pdb_reading::step(s, at, seen);
+        let next = pdb_file::step(s, at, seen);
         let Next::Got(r, a, v) = next else {
             return;
         };

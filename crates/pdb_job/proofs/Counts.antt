@@ -8,7 +8,7 @@ use lib.ListN.{replicate, length-map}
 use Rattle.buffers.specs.Put.{put}
 use Rattle.job_writer.specs.Job.{flat, segmentBytes, atomBytes, headBytes}
 use Rattle.job_writer.proofs.Laws.{job-made}
-use Rattle.pdb_reading.specs.Reading.{letters}
+use Rattle.pdb_file.specs.Reading.{letters}
 use Rattle.pdb_survey.specs.Tables.{Marks}
 use Rattle.pdb_survey.specs.declared.Counts.{Counts}
 use Rattle.pdb_job.specs.Structure.{Structure, chainsOf, sizeOf, toSegment, toAtom, jobOf}

@@ -24,11 +24,11 @@ use Rattle.pdb_records.specs.declared.AtomLine.{AtomLine}
 use Rattle.pdb_records.specs.declared.SegmentLine.{SegmentLine}
 use Rattle.pdb_records.specs.declared.Record.{Record}
 use Rattle.pdb_records.specs.declared.Record.the-variants.{AnAtom, ASegment}
-use Rattle.pdb_reading.specs.Reading.{rest, records, atoms, atomsIn, atomsOf, segments, segmentsIn, segmentsOf, names, letters}
-use Rattle.pdb_reading.specs.Steps.{Onward}
-use Rattle.pdb_reading.specs.Faults.{firstAtom, lastAtom, isFound, serialIn}
-use Rattle.pdb_reading.specs.declared.Found.{Found}
-use Rattle.pdb_reading.specs.declared.Found.the-variants.{Nowhere, Serial}
+use Rattle.pdb_file.specs.Reading.{rest, records, atoms, atomsIn, atomsOf, segments, segmentsIn, segmentsOf, names, letters}
+use Rattle.pdb_file.specs.Steps.{Onward}
+use Rattle.pdb_file.specs.Faults.{firstAtom, lastAtom, isFound, serialIn}
+use Rattle.pdb_file.specs.declared.Found.{Found}
+use Rattle.pdb_file.specs.declared.Found.the-variants.{Nowhere, Serial}
 use Rattle.pdb_survey.specs.Tables.{Residues, Marks}
 use Rattle.pdb_survey.proofs.Atoms.{found-member}
 use Rattle.pdb_job.specs.Structure.{toAtom, toSegment, residueOrder, chainOrder, chainsOf}

@@ -8,7 +8,7 @@ use Rattle.appearance.specs.Index.{isKey}
 use Rattle.job_writer.specs.Job.{flat, segmentBytes, atomBytes}
 use Rattle.pdb_records.specs.declared.Record.{Record}
 use Rattle.pdb_records.specs.declared.AtomLine.{AtomLine}
-use Rattle.pdb_reading.specs.Reading.{atoms, atomsIn, segments}
+use Rattle.pdb_file.specs.Reading.{atoms, atomsIn, segments}
 use Rattle.pdb_job.specs.Structure.{toAtom, toSegment}
 
 -- their segments, one after another

@@ -8,8 +8,8 @@ use Rattle.job_writer.specs.declared.JobAtom.{JobAtom}
 use Rattle.job_writer.specs.declared.JobSegment.{JobSegment}
 use Rattle.pdb_records.specs.declared.AtomLine.{AtomLine}
 use Rattle.pdb_records.specs.declared.SegmentLine.{SegmentLine}
-use Rattle.pdb_reading.specs.Reading.{atomsOf, segmentsOf, names, letters}
-use Rattle.pdb_reading.specs.Faults.{firstAtom, lastAtom, serialIn}
+use Rattle.pdb_file.specs.Reading.{atomsOf, segmentsOf, names, letters}
+use Rattle.pdb_file.specs.Faults.{firstAtom, lastAtom, serialIn}
 
 -- what a file says: its atoms and its segments, each in file order
 pub record Structure : Type 0 where

@@ -1,7 +1,7 @@
 // The records of the job: what a line gives, by the tables of a survey, and the walk that writes them.
 use job_writer::JobAtom;
 use job_writer::JobSegment;
-use pdb_reading::Next;
+use pdb_file::Next;
 use pdb_records::AtomLine;
 use pdb_records::Record;
 use pdb_records::SegmentLine;
@@ -12,7 +12,7 @@ ghost use lib.ListN.{length, getD};
 ghost use Rattle.appearance.specs.Index.{Index, Keyed, isKey};
 ghost use Rattle.job.specs.Search.{last};
 ghost use Rattle.buffers.specs.Put.{put};
-ghost use Rattle.pdb_reading.specs.Reading.{records, atomsIn, segmentsIn, atomsOf, segmentsOf, names, letters};
+ghost use Rattle.pdb_file.specs.Reading.{records, atomsIn, segmentsIn, atomsOf, segmentsOf, names, letters};
 ghost use Rattle.pdb_survey.specs.Tables.{Residues, Marks};
 ghost use Rattle.pdb_job.specs.Structure.{toAtom, toSegment, chainsOf};
 ghost use Rattle.pdb_job.specs.Parts.{Held, segmentsFrom, atomsFrom};
@@ -140,7 +140,7 @@ pub fn write_records(
         atom: second,
     };
     loop {
-        let next = pdb_reading::step(s, at, seen);
+        let next = pdb_file::step(s, at, seen);
         let Next::Got(r, a, v) = next else {
             return;
         };

@@ -150,7 +150,7 @@ fn blame_residue(s: &[u8], l: &[u8]) {
     let r = pdb_records::record_of(k, l);
     if let Record::ASegment(g) = r {
         say(b"no right ATOM line has its residue ");
-        say_residue(l, k, !pdb_reading::is_present(s, g.start));
+        say_residue(l, k, !pdb_file::is_present(s, g.start));
         say(b"\n");
     }
 }

@@ -13,9 +13,9 @@ use Rattle.appearance.proofs.Laws.{or-true, or-no}
 use Rattle.appearance.specs.Order.{member, distinct, numbered}
 use Rattle.appearance.proofs.Holding.{empty-index}
 use Rattle.pdb_records.specs.declared.AtomLine.{AtomLine}
-use Rattle.pdb_reading.specs.Faults.{faultIn, isClean}
-use Rattle.pdb_reading.specs.declared.Fault.{Fault}
-use Rattle.pdb_reading.specs.declared.Fault.the-variants.{Clean, LineShort, LineWrong, NoResidue}
+use Rattle.pdb_file.specs.Faults.{faultIn, isClean}
+use Rattle.pdb_file.specs.declared.Fault.{Fault}
+use Rattle.pdb_file.specs.declared.Fault.the-variants.{Clean, LineShort, LineWrong, NoResidue}
 use Rattle.pdb_survey.specs.Tables.{Noted, Surveyed}
 use Rattle.pdb_survey.proofs.Walk.{noted-whole}
 use Rattle.pdb_survey.specs.declared.Counts.{Counts}

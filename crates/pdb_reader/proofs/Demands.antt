@@ -22,10 +22,10 @@ use Rattle.job_writer.proofs.Laws.{wide-atom}
 use Rattle.job_writer.proofs.Readback.{job-size}
 use Rattle.pdb_lines.specs.Lines.{lines}
 use Rattle.pdb_records.specs.declared.AtomLine.{AtomLine}
-use Rattle.pdb_reading.specs.Reading.{reading, atoms, segments, atomsOf, segmentsOf}
-use Rattle.pdb_reading.specs.Faults.{faultIn}
-use Rattle.pdb_reading.specs.declared.Fault.{Fault}
-use Rattle.pdb_reading.specs.declared.Fault.the-variants.{Clean, LineShort, LineWrong, NoResidue}
+use Rattle.pdb_file.specs.Reading.{reading, atoms, segments, atomsOf, segmentsOf}
+use Rattle.pdb_file.specs.Faults.{faultIn}
+use Rattle.pdb_file.specs.declared.Fault.{Fault}
+use Rattle.pdb_file.specs.declared.Fault.the-variants.{Clean, LineShort, LineWrong, NoResidue}
 use Rattle.pdb_job.specs.Structure.{toAtom, toSegment, chainsOf, residuesOf, sizeOf, jobOf, structureOf, pdbJob}
 use Rattle.pdb_reader.specs.Call.{pastLimits, byFault, readChecks, readAnswer, readBy, bufferAfter}
 use Rattle.pdb_reader.specs.declared.Read.{Read}

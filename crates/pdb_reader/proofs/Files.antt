@@ -26,10 +26,10 @@ use Rattle.pdb_records.specs.declared.Record.{Record}
 use Rattle.pdb_records.specs.declared.Record.the-variants.{Skipped}
 use Rattle.pdb_records.specs.declared.AtomLine.{AtomLine}
 use Rattle.pdb_records.specs.declared.SegmentLine.{SegmentLine}
-use Rattle.pdb_reading.specs.Reading.{stops, saw, reading, records, atomsIn, atoms, segmentsIn, segments, atomsOf, segmentsOf}
-use Rattle.pdb_reading.specs.Faults.{faultOf, firstOf, faults, faultIn}
-use Rattle.pdb_reading.specs.declared.Fault.{Fault}
-use Rattle.pdb_reading.specs.declared.Fault.the-variants.{Clean, LineShort, LineWrong, NoResidue}
+use Rattle.pdb_file.specs.Reading.{stops, saw, reading, records, atomsIn, atoms, segmentsIn, segments, atomsOf, segmentsOf}
+use Rattle.pdb_file.specs.Faults.{faultOf, firstOf, faults, faultIn}
+use Rattle.pdb_file.specs.declared.Fault.{Fault}
+use Rattle.pdb_file.specs.declared.Fault.the-variants.{Clean, LineShort, LineWrong, NoResidue}
 use Rattle.pdb_job.specs.Structure.{Structure, sizeOf, jobOf, structureOf, pdbJob}
 use Rattle.pdb_reader.specs.Call.{pastLimits, byFault, readChecks, readAnswer, readBy, bufferAfter}
 use Rattle.pdb_reader.specs.declared.Read.{Read}

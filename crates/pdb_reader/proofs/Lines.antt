@@ -20,7 +20,7 @@ use Rattle.pdb_records.specs.declared.Field.{Field}
 use Rattle.pdb_records.specs.declared.Field.the-variants as field
 use Rattle.pdb_records.specs.declared.Record.{Record}
 use Rattle.pdb_records.specs.declared.Record.the-variants.{Skipped, Short, BadNumber, AnAtom, ASegment}
-use Rattle.pdb_reading.specs.Reading.{stops, saw, reading, records, atoms, atomsOf, segments, segmentsOf}
+use Rattle.pdb_file.specs.Reading.{stops, saw, reading, records, atoms, atomsOf, segments, segmentsOf}
 use Rattle.pdb_reader.proofs.Passes.{NotMinusZero, Proper, Every, Kinded}
 use Rattle.pdb_reader.proofs.Small.{thousandths-small}
 use Rattle.pdb_reader.proofs.Range.{within-bits-of, bits-small, never-minus-zero}

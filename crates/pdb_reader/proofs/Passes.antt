@@ -18,7 +18,7 @@ use Rattle.job_writer.specs.declared.JobSegment.{JobSegment}
 use Rattle.job_writer.proofs.Fine.{Placed, Right, written-fine}
 use Rattle.pdb_records.specs.declared.AtomLine.{AtomLine}
 use Rattle.pdb_records.specs.declared.SegmentLine.{SegmentLine}
-use Rattle.pdb_reading.specs.Reading.{names, letters}
+use Rattle.pdb_file.specs.Reading.{names, letters}
 use Rattle.pdb_job.specs.Structure.{Structure, toAtom, toSegment, chainsOf, residuesOf, jobOf}
 use Rattle.pdb_reader.specs.Call.{pastLimits}
 use Rattle.pdb_reader.proofs.Answers.{limited}

@@ -6,9 +6,9 @@ use lib.ListN.{length}
 use lib.Dec.{ltb}
 use Rattle.buffers.specs.Put.{put}
 use Rattle.job.specs.declared.Refusal.the-variants.{ShortLine, BadNumber, AbsentResidue, PastLimits, NoJobRoom}
-use Rattle.pdb_reading.specs.Faults.{faultIn}
-use Rattle.pdb_reading.specs.declared.Fault.{Fault}
-use Rattle.pdb_reading.specs.declared.Fault.the-variants.{Clean, LineShort, LineWrong, NoResidue}
+use Rattle.pdb_file.specs.Faults.{faultIn}
+use Rattle.pdb_file.specs.declared.Fault.{Fault}
+use Rattle.pdb_file.specs.declared.Fault.the-variants.{Clean, LineShort, LineWrong, NoResidue}
 use Rattle.pdb_job.specs.Structure.{Structure, chainsOf, residuesOf, sizeOf, structureOf, pdbJob}
 use Rattle.pdb_reader.specs.declared.Read.{Read}
 use Rattle.pdb_reader.specs.declared.Read.the-variants.{Written, NoJob}

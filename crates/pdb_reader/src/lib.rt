@@ -1,10 +1,10 @@
 // The public call `read_pdb`: from the bytes of a PDB file to a version 1 job in a lent buffer, or one refusal.
 use job::Refusal;
-use pdb_reading::Fault;
+use pdb_file::Fault;
 use pdb_survey::Counts;
 ghost use mathlib.Core.Path.{_≡_};
 ghost use lib.ListN.{length};
-ghost use Rattle.pdb_reading.specs.Reading.{atomsOf};
+ghost use Rattle.pdb_file.specs.Reading.{atomsOf};
 ghost use Rattle.pdb_survey.specs.Tables.{Noted};
 ghost use Rattle.pdb_job.specs.Structure.{Structure, structureOf};
 ghost use Rattle.pdb_reader.specs.Call.{pastLimits, byFault, readChecks, readAnswer, readBy, bufferAfter};
@@ -83,7 +83,7 @@ pub fn read_pdb(s: &[u8], out: &mut [u8]) -> Read
     if c.more {
         return by_fault(f, Read::NoJob(Refusal::PastLimits));
     }
-    if pdb_reading::is_clean(f) {
+    if pdb_file::is_clean(f) {
         return read_right(s, &keys, &links, &ends, &marks, c, segments, out);
     }
     by_fault(f, Read::NoJob(Refusal::PastLimits))

@@ -11,7 +11,7 @@ use Rattle.pdb_lines.specs.Post.{Cut}
 use Rattle.pdb_records.specs.Records.{kindOf, ofKind}
 use Rattle.pdb_records.specs.declared.Record.{Record}
 use Rattle.pdb_records.specs.declared.Kind.{Kind}
-use Rattle.pdb_reading.specs.Reading.{stops, saw, reading}
+use Rattle.pdb_file.specs.Reading.{stops, saw, reading}
 use Rattle.pdb_search.specs.Kinds.{passes, everywhere, taken, chosen, linesFrom, linesOf}
 use Rattle.pdb_search.specs.Post.{Onward, Found}
 use Rattle.pdb_search.specs.declared.What.{What}

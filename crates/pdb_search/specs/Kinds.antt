@@ -12,7 +12,7 @@ use Rattle.pdb_records.specs.declared.Kind.{Kind}
 use Rattle.pdb_records.specs.declared.Kind.the-variants.{Atom, Helix, Sheet, Model, Endmdl, Other}
 use Rattle.pdb_records.specs.declared.Record.{Record}
 use Rattle.pdb_records.specs.declared.Record.the-variants.{Skipped, Short, BadNumber, AnAtom, ASegment}
-use Rattle.pdb_reading.specs.Reading.{stops, saw}
+use Rattle.pdb_file.specs.Reading.{stops, saw}
 use Rattle.pdb_search.specs.declared.What.{What}
 use Rattle.pdb_search.specs.declared.What.the-variants.{Models, Ends, Alphas, Heteros, Misspelt, Items, Atoms}
 

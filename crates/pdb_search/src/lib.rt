@@ -8,7 +8,7 @@ ghost use Prim.Native.Nat.{_≤_};
 ghost use lib.ListN.{length};
 ghost use Rattle.pdb_lines.specs.Columns.{named};
 ghost use Rattle.pdb_records.specs.Records.{atomOf};
-ghost use Rattle.pdb_reading.specs.Reading.{stops};
+ghost use Rattle.pdb_file.specs.Reading.{stops};
 ghost use Rattle.pdb_search.specs.Kinds.{isAlpha, isEnd, hasLetters, isOther, isMisspelt, nameIn, passes, everywhere, linesOf};
 ghost use Rattle.pdb_search.specs.Post.{Found};
 
@@ -145,9 +145,9 @@ fn is_over(w: What, seen: bool, k: Kind) -> bool
     match w {
         What::Models => false,
         What::Ends => false,
-        What::Alphas => pdb_reading::stops_at(seen, k),
-        What::Heteros => pdb_reading::stops_at(seen, k),
-        What::Misspelt => pdb_reading::stops_at(seen, k),
+        What::Alphas => pdb_file::stops_at(seen, k),
+        What::Heteros => pdb_file::stops_at(seen, k),
+        What::Misspelt => pdb_file::stops_at(seen, k),
         What::Items => false,
         What::Atoms => false,
     }
@@ -168,7 +168,7 @@ pub fn next_line(s: &[u8], at: usize, seen: bool, w: What) -> Next
         if is_over(w, model, k) {
             return Next::Done;
         }
-        let v = pdb_reading::saw_model(model, k);
+        let v = pdb_file::saw_model(model, k);
         if is_wanted(w, &s[from..to]) {
             return Next::Got(Spot {
                 at: from,

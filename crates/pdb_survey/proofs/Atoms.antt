@@ -8,10 +8,10 @@ use lib.Dec.{eqb}
 use borrow.Author.Tests.{eqb-true, eqb-false, eq-eqb, ne-eqb}
 use Rattle.appearance.specs.Order.{member}
 use Rattle.pdb_records.specs.declared.AtomLine.{AtomLine}
-use Rattle.pdb_reading.specs.declared.Found.{Found}
-use Rattle.pdb_reading.specs.declared.Found.the-variants.{Nowhere, Serial}
-use Rattle.pdb_reading.specs.Reading.{names, letters}
-use Rattle.pdb_reading.specs.Faults.{firstAtom, lastAtom, orElse, isFound}
+use Rattle.pdb_file.specs.declared.Found.{Found}
+use Rattle.pdb_file.specs.declared.Found.the-variants.{Nowhere, Serial}
+use Rattle.pdb_file.specs.Reading.{names, letters}
+use Rattle.pdb_file.specs.Faults.{firstAtom, lastAtom, orElse, isFound}
 
 pub names-more : (l : List AtomLine) (a : AtomLine) → names (l ++ (a ∷ [])) ≡ names l ++ (a .name ∷ [])
 names-more l a = map-append (λ (a : AtomLine). a .name) l (a ∷ [])

@@ -17,8 +17,8 @@ use Rattle.appearance.specs.Index.{Index, Keyed, isKey}
 use Rattle.appearance.proofs.Found.{last-taken}
 use Rattle.appearance.proofs.Numbers.{found-number, keyed-member, keyed-number, keyed-seen, keyed-new, number-none, number-some, number-new, number-kept, number-other, count-seen, count-new}
 use Rattle.pdb_records.specs.declared.AtomLine.{AtomLine}
-use Rattle.pdb_reading.specs.Reading.{names}
-use Rattle.pdb_reading.specs.Faults.{firstAtom, lastAtom, serialIn}
+use Rattle.pdb_file.specs.Reading.{names}
+use Rattle.pdb_file.specs.Faults.{firstAtom, lastAtom, serialIn}
 use Rattle.pdb_survey.specs.Tables.{Residues, Marks}
 use Rattle.pdb_survey.proofs.Atoms.{names-more, first-kept, first-new, last-here, last-kept}
 

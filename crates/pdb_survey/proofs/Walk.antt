@@ -14,11 +14,11 @@ use Rattle.appearance.proofs.Numbers.{keyed-member}
 use Rattle.pdb_records.specs.declared.AtomLine.{AtomLine}
 use Rattle.pdb_records.specs.declared.Record.{Record}
 use Rattle.pdb_records.specs.declared.Record.the-variants.{Skipped, Short, BadNumber, AnAtom, ASegment}
-use Rattle.pdb_reading.specs.Reading.{rest, records, atoms, atomsOf, atomsIn, segmentsIn, names, letters}
-use Rattle.pdb_reading.specs.Steps.{Onward}
-use Rattle.pdb_reading.specs.Faults.{isClean, firstOf}
-use Rattle.pdb_reading.specs.declared.Fault.{Fault}
-use Rattle.pdb_reading.specs.declared.Fault.the-variants.{Clean, LineShort, LineWrong, NoResidue}
+use Rattle.pdb_file.specs.Reading.{rest, records, atoms, atomsOf, atomsIn, segmentsIn, names, letters}
+use Rattle.pdb_file.specs.Steps.{Onward}
+use Rattle.pdb_file.specs.Faults.{isClean, firstOf}
+use Rattle.pdb_file.specs.declared.Fault.{Fault}
+use Rattle.pdb_file.specs.declared.Fault.the-variants.{Clean, LineShort, LineWrong, NoResidue}
 use Rattle.pdb_survey.specs.Lines.{ownFault, ownFaults, ahead, counted}
 use Rattle.pdb_survey.specs.Tables.{Residues, Marks, Whole, Noted, Surveyed}
 use Rattle.pdb_survey.specs.declared.Counts.{Counts}

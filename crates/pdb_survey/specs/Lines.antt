@@ -5,10 +5,10 @@ use mathlib.Core.Bool.{cond}
 use lib.ListN.{length}
 use Rattle.pdb_records.specs.declared.Record.{Record}
 use Rattle.pdb_records.specs.declared.Record.the-variants.{Skipped, Short, BadNumber, AnAtom, ASegment}
-use Rattle.pdb_reading.specs.Reading.{segmentsIn}
-use Rattle.pdb_reading.specs.Faults.{isClean, firstOf}
-use Rattle.pdb_reading.specs.declared.Fault.{Fault}
-use Rattle.pdb_reading.specs.declared.Fault.the-variants.{Clean, LineShort, LineWrong}
+use Rattle.pdb_file.specs.Reading.{segmentsIn}
+use Rattle.pdb_file.specs.Faults.{isClean, firstOf}
+use Rattle.pdb_file.specs.declared.Fault.{Fault}
+use Rattle.pdb_file.specs.declared.Fault.the-variants.{Clean, LineShort, LineWrong}
 
 -- the fault that line n has by itself: 12 or 13, or none
 abbrev pub ownFault : ℕ → Record → Fault

@@ -7,8 +7,8 @@ use lib.ListN.{length, getD}
 use Rattle.appearance.specs.Order.{member, order, numbered}
 use Rattle.appearance.specs.Index.{Index, Keyed}
 use Rattle.pdb_records.specs.declared.AtomLine.{AtomLine}
-use Rattle.pdb_reading.specs.Reading.{names, letters, records, atomsOf}
-use Rattle.pdb_reading.specs.Faults.{firstAtom, lastAtom, serialIn}
+use Rattle.pdb_file.specs.Reading.{names, letters, records, atomsOf}
+use Rattle.pdb_file.specs.Faults.{firstAtom, lastAtom, serialIn}
 use Rattle.pdb_survey.specs.Lines.{ownFaults, ahead}
 use Rattle.pdb_survey.specs.declared.Counts.{Counts}
 use Rattle.pdb_survey.specs.declared.Overview.{Overview}

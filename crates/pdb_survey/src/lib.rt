@@ -1,6 +1,6 @@
 // One walk over a PDB file: the faults that lines have by themselves, the counts, and tables of its residues and chains.
-use pdb_reading::Fault;
-use pdb_reading::Next;
+use pdb_file::Fault;
+use pdb_file::Next;
 use pdb_records::AtomLine;
 use pdb_records::Record;
 ghost use mathlib.Core.Path.{_≡_};
@@ -8,8 +8,8 @@ ghost use mathlib.Core.List.{List, [], _∷_, _++_};
 ghost use Prim.Native.Nat.{ℕ, _+_, _<_, _≤_};
 ghost use mathlib.Core.Bool.{false};
 ghost use Rattle.appearance.specs.Index.{Index};
-ghost use Rattle.pdb_reading.specs.Reading.{atomsIn};
-ghost use Rattle.pdb_reading.specs.Faults.{firstOf};
+ghost use Rattle.pdb_file.specs.Reading.{atomsIn};
+ghost use Rattle.pdb_file.specs.Faults.{firstOf};
 ghost use Rattle.pdb_survey.specs.Lines.{ownFault, counted};
 ghost use Rattle.pdb_survey.specs.Tables.{Marks, Noted, Surveyed};
 
@@ -173,7 +173,7 @@ pub fn survey(
         more: false,
     };
     loop {
-        let n = pdb_reading::step(s, at, seen);
+        let n = pdb_file::step(s, at, seen);
         match n {
             Next::Done => {
                 return Overview {

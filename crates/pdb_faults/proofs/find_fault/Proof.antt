@@ -4,9 +4,9 @@ use mathlib.Core.Bool.{false}
 use mathlib.Core.Path.{_≡_, refl, sym, _∙_}
 use native.Mathlib.Omega.{arith}
 use lib.ListN.{length}
-use Rattle.pdb_reading.specs.Reading.{rest, atomsOf, names}
-use Rattle.pdb_reading.specs.Faults.{faultIn, faults}
-use Rattle.pdb_reading.proofs.Laws.{stepped-done, stepped-got}
+use Rattle.pdb_file.specs.Reading.{rest, atomsOf, names}
+use Rattle.pdb_file.specs.Faults.{faultIn, faults}
+use Rattle.pdb_file.proofs.Laws.{stepped-done, stepped-got}
 use Rattle.pdb_survey.specs.Lines.{ownFaults, ahead}
 use Rattle.pdb_faults.specs.Wanted.{Wanted}
 use Rattle.pdb_faults.proofs.AtFault.{keyed-same, fault-here, fault-on, none-left, own-on, ahead-on, no-ahead}

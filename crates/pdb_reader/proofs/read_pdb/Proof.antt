@@ -1,5 +1,5 @@
 use mathlib.Core.Path.{sym, _∙_, ap}
-use Rattle.pdb_reading.specs.Faults.{isClean}
+use Rattle.pdb_file.specs.Faults.{isClean}
 use Rattle.pdb_reader.proofs.Answers.{empty-tables, noted-same, surveyed-counts, residues-past, refused, right, clash}
 use borrow.Author.Needs.{needs}
 use Rattle.pdb_reader.proofs.read_pdb.Statement.{statement}

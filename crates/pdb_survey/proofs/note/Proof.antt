@@ -1,5 +1,5 @@
 use native.Mathlib.Omega.{arith}
-use Rattle.pdb_reading.specs.Reading.{atomsIn}
+use Rattle.pdb_file.specs.Reading.{atomsIn}
 use Rattle.pdb_survey.proofs.Walk.{noted-none}
 use mathlib.Core.Path.{ap}
 use Rattle.pdb_survey.proofs.Walk.{noted-as, noted-none}

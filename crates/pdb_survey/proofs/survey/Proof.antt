@@ -3,8 +3,8 @@ use Prim.Native.Nat.{_-_}
 use lib.ListN.{length}
 use native.Mathlib.Omega.{arith}
 use mathlib.Core.Path.{_∙_, ap}
-use Rattle.pdb_reading.specs.Faults.{firstOf}
-use Rattle.pdb_reading.proofs.Laws.{stepped-done, stepped-got}
+use Rattle.pdb_file.specs.Faults.{firstOf}
+use Rattle.pdb_file.proofs.Laws.{stepped-done, stepped-got}
 use Rattle.pdb_survey.proofs.Walk.{Surveying, surveying-start, surveying-over, surveying-more}
 use Rattle.pdb_survey.proofs.survey.Statement.{statement}
 use Rattle.pdb_survey.proofs.survey.Tie as tie

@@ -3,7 +3,7 @@ use borrow.Author.Needs.{needs}
 use Prim.Native.Nat.{_≤_, _-_}
 use lib.ListN.{length}
 use Rattle.appearance.specs.Index.{Index}
-use Rattle.pdb_reading.proofs.Laws.{stepped-got}
+use Rattle.pdb_file.proofs.Laws.{stepped-got}
 use Rattle.pdb_faults.proofs.past.gather.Statement.{statement}
 use Rattle.pdb_faults.proofs.past.gather.Tie as tie
 

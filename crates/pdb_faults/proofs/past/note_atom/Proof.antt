@@ -1,5 +1,5 @@
 use mathlib.Core.Path.{ap}
-use Rattle.pdb_reading.specs.Reading.{atomsIn, names}
+use Rattle.pdb_file.specs.Reading.{atomsIn, names}
 use Rattle.pdb_faults.proofs.Wanted.{noted-none, noted-atom}
 use borrow.Author.Needs.{needs}
 use Rattle.pdb_faults.proofs.past.note_atom.Statement.{statement}

@@ -2,7 +2,7 @@ use native.Mathlib.Omega.{arith}
 use borrow.Author.Needs.{needs}
 use Prim.Native.Nat.{_-_}
 use lib.ListN.{length}
-use Rattle.pdb_reading.proofs.Laws.{stepped-done, stepped-got}
+use Rattle.pdb_file.proofs.Laws.{stepped-done, stepped-got}
 use Rattle.pdb_faults.proofs.Wanted.{Noting, noting-start, noting-over, noting-more}
 use Rattle.pdb_faults.proofs.past.note_atoms.Statement.{statement}
 use Rattle.pdb_faults.proofs.past.note_atoms.Tie as tie

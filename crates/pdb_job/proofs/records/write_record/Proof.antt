@@ -1,6 +1,6 @@
 use native.Mathlib.Omega.{arith}
 use mathlib.Core.Path.{ap}
-use Rattle.pdb_reading.specs.Reading.{atomsIn, segmentsIn}
+use Rattle.pdb_file.specs.Reading.{atomsIn, segmentsIn}
 use Rattle.pdb_job.proofs.Writing.{segment-room, atom-room, counts-are, wrote-segment, wrote-atom, wrote-none}
 use borrow.Author.Needs.{needs}
 use Rattle.pdb_job.proofs.records.write_record.Statement.{statement}

@@ -2,7 +2,7 @@ use borrow.Author.Needs.{needs}
 use Prim.Native.Nat.{_-_}
 use native.Mathlib.Omega.{arith}
 use lib.ListN.{length}
-use Rattle.pdb_reading.proofs.Laws.{stepped-done, stepped-got}
+use Rattle.pdb_file.proofs.Laws.{stepped-done, stepped-got}
 use Rattle.pdb_job.proofs.Writing.{Writing, writing-start, writing-over, writing-held, writing-segment, writing-atom, writing-more}
 use Rattle.pdb_job.proofs.records.write_records.Statement.{statement}
 use Rattle.pdb_job.proofs.records.write_records.Tie as tie

@@ -7,11 +7,11 @@ use Rattle.pdb_records.specs.declared.Record.{Record}
 use Rattle.pdb_records.specs.declared.Record.the-variants.{Skipped, Short, BadNumber, AnAtom, ASegment}
 use Rattle.pdb_records.specs.declared.AtomLine.{AtomLine}
 use Rattle.pdb_records.specs.declared.SegmentLine.{SegmentLine}
-use Rattle.pdb_reading.specs.declared.Found.{Found}
-use Rattle.pdb_reading.specs.declared.Found.the-variants.{Nowhere, Serial}
-use Rattle.pdb_reading.specs.declared.Fault.{Fault}
-use Rattle.pdb_reading.specs.declared.Fault.the-variants.{Clean, LineShort, LineWrong, NoResidue}
-use Rattle.pdb_reading.specs.Reading.{records, atomsOf}
+use Rattle.pdb_file.specs.declared.Found.{Found}
+use Rattle.pdb_file.specs.declared.Found.the-variants.{Nowhere, Serial}
+use Rattle.pdb_file.specs.declared.Fault.{Fault}
+use Rattle.pdb_file.specs.declared.Fault.the-variants.{Clean, LineShort, LineWrong, NoResidue}
+use Rattle.pdb_file.specs.Reading.{records, atomsOf}
 
 -- 'the serial of the starting residue's first atom': of the residue named n
 unfoldable pub firstAtom : ℕ → List AtomLine → Found

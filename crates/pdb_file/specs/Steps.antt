@@ -4,9 +4,9 @@ use mathlib.Core.List.{List, [], _∷_}
 use mathlib.Core.Path.{_≡_}
 use mathlib.Core.Bool.{Bool}
 use lib.ListN.{length}
-use Rattle.pdb_reading.specs.Reading.{rest}
-use Rattle.pdb_reading.specs.declared.Next.{Next}
-use Rattle.pdb_reading.specs.declared.Next.the-variants.{Done, Got}
+use Rattle.pdb_file.specs.Reading.{rest}
+use Rattle.pdb_file.specs.declared.Next.{Next}
+use Rattle.pdb_file.specs.declared.Next.the-variants.{Done, Got}
 use Rattle.pdb_records.specs.declared.Record.{Record}
 
 -- what is left is r and then what is left from place at′ on

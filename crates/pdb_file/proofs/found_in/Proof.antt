@@ -1,7 +1,7 @@
 use borrow.Author.Tests.{eq-eqb, ne-eqb}
 use borrow.Author.Needs.{needs}
-use Rattle.pdb_reading.proofs.found_in.Statement.{statement}
-use Rattle.pdb_reading.proofs.found_in.Tie as tie
+use Rattle.pdb_file.proofs.found_in.Statement.{statement}
+use Rattle.pdb_file.proofs.found_in.Tie as tie
 
 returns : tie.Need-returns
 returns c = simp (c .before .before .before .r .given .1, eq-eqb _ _ (c .if1 .taken))

@@ -1,7 +1,7 @@
 use mathlib.Core.Path.{sym, _∙_}
 use borrow.Author.Needs.{needs}
-use Rattle.pdb_reading.proofs.is_present.Statement.{statement}
-use Rattle.pdb_reading.proofs.is_present.Tie as tie
+use Rattle.pdb_file.proofs.is_present.Statement.{statement}
+use Rattle.pdb_file.proofs.is_present.Tie as tie
 
 first-atom-requires : tie.Need-first-atom-requires
 first-atom-requires c κs = search needs

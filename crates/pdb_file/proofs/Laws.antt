@@ -11,13 +11,13 @@ use Rattle.pdb_records.specs.Records.{kindOf, ofKind}
 use Rattle.pdb_records.specs.declared.Kind.{Kind}
 use Rattle.pdb_records.specs.declared.Record.{Record}
 use Rattle.pdb_records.specs.declared.Record.the-variants.{Skipped, Short, BadNumber, AnAtom, ASegment}
-use Rattle.pdb_reading.specs.Reading.{stops, saw, reading, rest, atoms}
-use Rattle.pdb_reading.specs.Steps.{Onward, Stepped}
-use Rattle.pdb_reading.specs.declared.Next.{Next}
-use Rattle.pdb_reading.specs.declared.Next.the-variants.{Done, Got}
-use Rattle.pdb_reading.specs.declared.Found.{Found}
-use Rattle.pdb_reading.specs.declared.Found.the-variants.{Nowhere, Serial}
-use Rattle.pdb_reading.specs.Faults.{foundIn, orElse, firstAtom}
+use Rattle.pdb_file.specs.Reading.{stops, saw, reading, rest, atoms}
+use Rattle.pdb_file.specs.Steps.{Onward, Stepped}
+use Rattle.pdb_file.specs.declared.Next.{Next}
+use Rattle.pdb_file.specs.declared.Next.the-variants.{Done, Got}
+use Rattle.pdb_file.specs.declared.Found.{Found}
+use Rattle.pdb_file.specs.declared.Found.the-variants.{Nowhere, Serial}
+use Rattle.pdb_file.specs.Faults.{foundIn, orElse, firstAtom}
 
 pub rest-over : (s : List ℕ) (at : ℕ) (seen : Bool) → length s ≤ at → rest s at seen ≡ []
 unfolding reading lines

@@ -4,11 +4,11 @@ use mathlib.Core.List.{[]}
 use native.Mathlib.Omega.{arith}
 use lib.ListN.{length}
 use borrow.Author.Needs.{needs}
-use Rattle.pdb_reading.specs.Reading.{rest, records, atoms}
-use Rattle.pdb_reading.specs.Faults.{firstAtom}
-use Rattle.pdb_reading.proofs.Laws.{first-done, first-here, first-on, stepped-done, stepped-got}
-use Rattle.pdb_reading.proofs.first_atom.Statement.{statement}
-use Rattle.pdb_reading.proofs.first_atom.Tie as tie
+use Rattle.pdb_file.specs.Reading.{rest, records, atoms}
+use Rattle.pdb_file.specs.Faults.{firstAtom}
+use Rattle.pdb_file.proofs.Laws.{first-done, first-here, first-on, stepped-done, stepped-got}
+use Rattle.pdb_file.proofs.first_atom.Statement.{statement}
+use Rattle.pdb_file.proofs.first_atom.Tie as tie
 
 abbrev Inv-loop : tie.InvT-loop
 Inv-loop s name at₀ seen₀ at seen = (at ≤ length s) × (firstAtom name (atoms (records s)) ≡ firstAtom name (atoms (rest s at seen)))

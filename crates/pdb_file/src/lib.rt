@@ -5,9 +5,9 @@ ghost use mathlib.Core.Path.{_≡_};
 ghost use mathlib.Core.Bool.{true, false};
 ghost use Prim.Native.Nat.{_≤_};
 ghost use lib.ListN.{length};
-ghost use Rattle.pdb_reading.specs.Reading.{stops, saw, atomsOf};
-ghost use Rattle.pdb_reading.specs.Faults.{foundIn, firstAtom, isFound, isClean};
-ghost use Rattle.pdb_reading.specs.Steps.{Stepped};
+ghost use Rattle.pdb_file.specs.Reading.{stops, saw, atomsOf};
+ghost use Rattle.pdb_file.specs.Faults.{foundIn, firstAtom, isFound, isClean};
+ghost use Rattle.pdb_file.specs.Steps.{Stepped};
 
 pub enum Next {
     Done,

@@ -1,8 +1,8 @@
 use mathlib.Core.Path.{sym, _∙_}
-use Rattle.pdb_reading.proofs.Laws.{rest-over, rest-stop, rest-on}
+use Rattle.pdb_file.proofs.Laws.{rest-over, rest-stop, rest-on}
 use borrow.Author.Needs.{needs}
-use Rattle.pdb_reading.proofs.step.Statement.{statement}
-use Rattle.pdb_reading.proofs.step.Tie as tie
+use Rattle.pdb_file.proofs.step.Statement.{statement}
+use Rattle.pdb_file.proofs.step.Tie as tie
 
 returns : tie.Need-returns
 returns c = rest-over _ _ _ (c .if1 .taken)
