@@ -1,2 +1,1 @@
 pub mod AtFault
-pub mod Wanted

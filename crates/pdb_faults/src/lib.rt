@@ -1,6 +1,4 @@
 // The first line at fault, found with the tables of a survey.
-pub mod past;
-
 use pdb_file::Fault;
 use pdb_file::Next;
 use pdb_records::Record;
@@ -11,7 +9,7 @@ ghost use Rattle.pdb_file.specs.Reading.{records, atomsOf, names};
 ghost use Rattle.pdb_file.specs.Faults.{firstAtom, isFound, faultOf, faultIn};
 ghost use Rattle.pdb_survey.specs.Lines.{ownFaults, ahead};
 ghost use Rattle.pdb_survey.specs.Tables.{Known};
-ghost use Rattle.pdb_faults.specs.Wanted.{Wanted};
+ghost use Rattle.pdb_wanted.specs.Wanted.{Wanted};
 
 // Whether the file has an atom of this residue. One that is not in the index is absent, unless there are more: then the file is searched.
 fn is_present(
@@ -90,7 +88,7 @@ pub fn find_fault(
         let Next::Got(r, a, v) = next else {
             return own;
         };
-        n = past::refresh(s, at, seen, keys, links, &mut bits, n, more, r);
+        n = pdb_wanted::refresh(s, at, seen, keys, links, &mut bits, n, more, r);
         let f = fault_of(s, keys, links, &bits, n, more, line, r);
         if pdb_file::is_clean(f) {
             left -= pdb_survey::count_segment(Fault::Clean, r);

@@ -8,9 +8,9 @@ use Rattle.pdb_file.specs.Reading.{rest, atomsOf, names}
 use Rattle.pdb_file.specs.Faults.{faultIn, faults}
 use Rattle.pdb_file.proofs.Laws.{stepped-done, stepped-got}
 use Rattle.pdb_survey.specs.Lines.{ownFaults, ahead}
-use Rattle.pdb_faults.specs.Wanted.{Wanted}
+use Rattle.pdb_wanted.specs.Wanted.{Wanted}
 use Rattle.pdb_faults.proofs.AtFault.{keyed-same, fault-here, fault-on, none-left, own-on, ahead-on, no-ahead}
-use Rattle.pdb_faults.proofs.Wanted.{all-known}
+use Rattle.pdb_wanted.proofs.Wanted.{all-known}
 use Rattle.pdb_faults.proofs.find_fault.Statement.{statement}
 use Rattle.pdb_faults.proofs.find_fault.Tie as tie
 

@@ -1,5 +1,5 @@
 use native.Mathlib.Omega.{arith}
-use Rattle.pdb_faults.proofs.Wanted.{bit-tells}
+use Rattle.pdb_wanted.proofs.Wanted.{bit-tells}
 use Rattle.pdb_faults.proofs.AtFault.{found-not}
 use borrow.Author.Needs.{needs}
 use Rattle.pdb_faults.proofs.is_present.Statement.{statement}

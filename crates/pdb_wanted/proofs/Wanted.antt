@@ -20,7 +20,7 @@ use Rattle.pdb_file.specs.Faults.{firstAtom, isFound}
 use Rattle.pdb_file.specs.Steps.{Onward}
 use Rattle.pdb_survey.proofs.Atoms.{found-member, names-more}
 use Rattle.pdb_survey.specs.Tables.{Known}
-use Rattle.pdb_faults.specs.Wanted.{Wanted}
+use Rattle.pdb_wanted.specs.Wanted.{Wanted}
 
 -- ---- nothing is wanted, nothing is known
 zeros : (m i : ℕ) → getD (replicate {A = ℕ} m 0) i 0 ≡ 0

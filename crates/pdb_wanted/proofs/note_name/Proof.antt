@@ -1,8 +1,8 @@
 use native.Mathlib.Omega.{arith}
-use Rattle.pdb_faults.proofs.Wanted.{noted-there, noted-not}
+use Rattle.pdb_wanted.proofs.Wanted.{noted-there, noted-not}
 use borrow.Author.Needs.{needs}
-use Rattle.pdb_faults.proofs.past.note_name.Statement.{statement}
-use Rattle.pdb_faults.proofs.past.note_name.Tie as tie
+use Rattle.pdb_wanted.proofs.note_name.Statement.{statement}
+use Rattle.pdb_wanted.proofs.note_name.Tie as tie
 
 find-requires : tie.Need-find-requires
 find-requires c κs = search needs

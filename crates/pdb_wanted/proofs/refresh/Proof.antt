@@ -1,8 +1,8 @@
 use Rattle.pdb_survey.proofs.Walk.{clash}
-use Rattle.pdb_faults.proofs.Wanted.{unknown}
+use Rattle.pdb_wanted.proofs.Wanted.{unknown}
 use borrow.Author.Needs.{needs}
-use Rattle.pdb_faults.proofs.past.refresh.Statement.{statement}
-use Rattle.pdb_faults.proofs.past.refresh.Tie as tie
+use Rattle.pdb_wanted.proofs.refresh.Statement.{statement}
+use Rattle.pdb_wanted.proofs.refresh.Tie as tie
 
 gather-requires : tie.Need-gather-requires
 gather-requires c κs = (c .before .before .before .before .before .before .before .before .before .pre .0, c .before .before .forget .ensures _ (c .before .before .before .before .before .before .before .before .before .pre .1 .index .keys-size))

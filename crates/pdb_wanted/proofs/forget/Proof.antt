@@ -1,6 +1,6 @@
 use Rattle.appearance.proofs.Holding.{empty-index}
-use Rattle.pdb_faults.proofs.past.forget.Statement.{statement}
-use Rattle.pdb_faults.proofs.past.forget.Tie as tie
+use Rattle.pdb_wanted.proofs.forget.Statement.{statement}
+use Rattle.pdb_wanted.proofs.forget.Tie as tie
 
 returns : tie.Need-returns
 returns c = λ k e. empty-index k e

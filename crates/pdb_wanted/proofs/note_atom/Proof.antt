@@ -1,9 +1,9 @@
 use mathlib.Core.Path.{ap}
 use Rattle.pdb_file.specs.Reading.{atomsIn, names}
-use Rattle.pdb_faults.proofs.Wanted.{noted-none, noted-atom}
+use Rattle.pdb_wanted.proofs.Wanted.{noted-none, noted-atom}
 use borrow.Author.Needs.{needs}
-use Rattle.pdb_faults.proofs.past.note_atom.Statement.{statement}
-use Rattle.pdb_faults.proofs.past.note_atom.Tie as tie
+use Rattle.pdb_wanted.proofs.note_atom.Statement.{statement}
+use Rattle.pdb_wanted.proofs.note_atom.Tie as tie
 
 returns : tie.Need-returns
 returns c = λ l W. noted-atom _ _ _ _ l _ _ (ap atomsIn (c .before .before .before .r .given .1)) (c .note-name .ensures (names l) W)

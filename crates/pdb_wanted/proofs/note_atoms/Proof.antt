@@ -3,9 +3,9 @@ use borrow.Author.Needs.{needs}
 use Prim.Native.Nat.{_-_}
 use lib.ListN.{length}
 use Rattle.pdb_file.proofs.Laws.{stepped-done, stepped-got}
-use Rattle.pdb_faults.proofs.Wanted.{Noting, noting-start, noting-over, noting-more}
-use Rattle.pdb_faults.proofs.past.note_atoms.Statement.{statement}
-use Rattle.pdb_faults.proofs.past.note_atoms.Tie as tie
+use Rattle.pdb_wanted.proofs.Wanted.{Noting, noting-start, noting-over, noting-more}
+use Rattle.pdb_wanted.proofs.note_atoms.Statement.{statement}
+use Rattle.pdb_wanted.proofs.note_atoms.Tie as tie
 
 abbrev Inv-loop : tie.InvT-loop
 Inv-loop s keys links n bits₀ at₀ seen₀ bits at seen = Noting s keys links bits n at seen

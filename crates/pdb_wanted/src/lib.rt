@@ -1,4 +1,4 @@
-// A file with more residues than the tables of a survey hold: the residues that its segments name are looked for, many of them in one walk.
+// Which of the residues that segments name a file has. Where there are more than the tables of a survey hold, many are looked for in one walk.
 use pdb_file::Next;
 use pdb_records::Record;
 ghost use mathlib.Core.Path.{_≡_};
@@ -9,7 +9,7 @@ ghost use lib.ListN.{length};
 ghost use Rattle.appearance.specs.Index.{Index};
 ghost use Rattle.pdb_records.specs.declared.AtomLine.{AtomLine};
 ghost use Rattle.pdb_file.specs.Reading.{atomsIn, atomsOf, names};
-ghost use Rattle.pdb_faults.specs.Wanted.{Wanted};
+ghost use Rattle.pdb_wanted.specs.Wanted.{Wanted};
 
 // An empty index.
 fn forget(links: &mut [usize; 32768])

@@ -4,8 +4,8 @@ use Prim.Native.Nat.{_≤_, _-_}
 use lib.ListN.{length}
 use Rattle.appearance.specs.Index.{Index}
 use Rattle.pdb_file.proofs.Laws.{stepped-got}
-use Rattle.pdb_faults.proofs.past.gather.Statement.{statement}
-use Rattle.pdb_faults.proofs.past.gather.Tie as tie
+use Rattle.pdb_wanted.proofs.gather.Statement.{statement}
+use Rattle.pdb_wanted.proofs.gather.Tie as tie
 
 abbrev Inv-loop : tie.InvT-loop
 Inv-loop s at seen keys₀ links₀ from₀ model₀ n₀ keys links from model n = (from ≤ length s) × (Index keys links n)

@@ -1,7 +1,7 @@
 use Rattle.pdb_survey.proofs.Walk.{clash}
 use borrow.Author.Needs.{needs}
-use Rattle.pdb_faults.proofs.past.serves.Statement.{statement}
-use Rattle.pdb_faults.proofs.past.serves.Tie as tie
+use Rattle.pdb_wanted.proofs.serves.Statement.{statement}
+use Rattle.pdb_wanted.proofs.serves.Tie as tie
 
 are-in-requires : tie.Need-are-in-requires
 are-in-requires c κs = search needs
