@@ -1,6 +1,6 @@
 -- Laws of the index: that it finds a key, and what one key more does to it. Assumes nothing.
-use Prim.Native.Nat.{ℕ, zero, suc, _+_, _-_, _<_, _≤_}
-use mathlib.Core.Bool.{Bool, true, false, cond}
+use Prim.Native.Nat.{ℕ, suc, _+_, _-_, _<_, _≤_}
+use mathlib.Core.Bool.{Bool, true, false}
 use mathlib.Core.Path.{_≡_, refl, sym, ap, _∙_, subst}
 use mathlib.Core.List.{List}
 use mathlib.Core.Logic.{⊎-elim}
@@ -11,42 +11,9 @@ use lib.Dec.{eqb}
 use lib.ListN.{length, getD, set, length-set}
 use lib.Seq.{getD-set-same, getD-set-other}
 use borrow.Author.Tests.{eqb-true, eqb-false, eq-eqb, ne-eqb}
-use Rattle.job.specs.Search.{last}
+use Rattle.buffers.specs.Search.{last}
+use Rattle.buffers.proofs.Searches.{last-le, last-taken, last-same, last-through}
 use Rattle.appearance.specs.Index.{slot, isKey, inSlot, Index}
-
--- ---- the last number below n that a test takes
-pub last-le : (t : ℕ → Bool) (n : ℕ) → last t n ≤ n
-unfolding last
-last-le t zero = omega arith
-last-le t (suc n) = go (t n) (last-le t n)
-  where
-    go : (b : Bool) → last t n ≤ n → cond b (suc n) (last t n) ≤ suc n
-    go true h = omega arith
-    go false h = omega arith
-
-pub last-taken : (t : ℕ → Bool) (n i : ℕ) → last t n ≡ suc i → t i ≡ true
-unfolding last
-last-taken t zero i e = absurd (omega arith)
-last-taken t (suc n) i e = go (t n) refl e (last-taken t n i)
-  where
-    go : (b : Bool) → t n ≡ b → cond b (suc n) (last t n) ≡ suc i → (last t n ≡ suc i → t i ≡ true) → t i ≡ true
-    go true q e f = subst (λ (k : ℕ). t k ≡ true) (omega arith) q
-    go false q e f = f e
-
-pub last-same : (t u : ℕ → Bool) (n : ℕ) → ((i : ℕ) → i < n → t i ≡ u i) → last t n ≡ last u n
-unfolding last
-last-same t u zero h = refl
-last-same t u (suc n) h = rw (h n (omega arith), last-same t u n (λ i l. h i (omega arith)))
-
--- what t takes, u takes: no t stands above the last u
-last-through : (t u : ℕ → Bool) → ((i : ℕ) → u i ≡ false → t i ≡ false) → (n : ℕ) → last t n ≡ last t (last u n)
-unfolding last
-last-through t u h zero = refl
-last-through t u h (suc n) = go (u n) refl (last-through t u h n)
-  where
-    go : (b : Bool) → u n ≡ b → last t n ≡ last t (last u n) → cond (t n) (suc n) (last t n) ≡ last t (cond b (suc n) (last u n))
-    go true q e = refl
-    go false q e = rw (h n q) e
 
 -- ---- a walk along a slot
 -- no key x stands at or above p, and the key before p is of x's slot

@@ -11,11 +11,11 @@ use lib.Dec.{eqb}
 use lib.ListN.{length, getD, set, length-append, List·getD-append}
 use lib.Seq.{getD-append-seam, getD-set-same, getD-set-other}
 use borrow.Author.Tests.{eqb-true, eqb-false, eq-eqb, ne-eqb}
-use Rattle.job.specs.Search.{last}
+use Rattle.buffers.specs.Search.{last}
+use Rattle.buffers.proofs.Searches.{last-same, last-up}
 use Rattle.appearance.specs.Order.{member, place, add, distinct, order, numbered}
 use Rattle.appearance.specs.Index.{isKey, Keyed}
 use Rattle.appearance.proofs.Laws.{member-append, member-at, member-distinct, distinct-append, place-append, place-new}
-use Rattle.appearance.proofs.Found.{last-same}
 
 -- a search of the whole list finds a key where it first stands
 Once : List ℕ → Type 0
@@ -65,19 +65,6 @@ found-number keys l n x K =
     ∙ rw (member-distinct x [] l, add-one)
 
 -- ---- each key has a number of its own
-last-up : (t : ℕ → Bool) (n i : ℕ) → i < n → t i ≡ true → i < last t n
-unfolding last
-last-up t zero i l e = absurd (omega arith)
-last-up t (suc n) i l e = go (t n) refl (last-up t n i)
-  where
-    go : (b : Bool) → t n ≡ b → (i < n → t i ≡ true → i < last t n) → i < cond b (suc n) (last t n)
-    go true q f = l
-    go false q f =
-        ⊎-elim
-        (λ z. absurd (let w : _≡_ {A = Bool} true false = sym e ∙ ap t z ∙ q in let u : _≡_ {A = ℕ} 0 1 = cc in omega arith))
-        (λ z. f z e)
-        (eq-or-lt-of-le (le-of-suc-le-suc l))
-
 place-down : (g : List ℕ) (i : ℕ) → i < length g → place (getD g i 0) g ≤ i
 unfolding place
 place-down [] i l = absurd (omega arith)

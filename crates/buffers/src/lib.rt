@@ -1,4 +1,4 @@
-// What a lent buffer holds after a run of stores is mathematics, in specs/ and proofs/. The crate's own function is the smallest
+// What a lent buffer holds after a run of stores, and what a search finds, is mathematics, in specs/ and proofs/. The crate's own function is the smallest
 // writer: three words, as a triangle's corners, at a place.
 ghost use mathlib.Core.Path.{_≡_};
 ghost use mathlib.Core.List.{[], _∷_};

@@ -1,14 +1,11 @@
--- Laws of `first` and `last`, for loops that count up. Assumes nothing.
-use Prim.Native.Nat.{ℕ, zero, suc, _+_, _-_, _<_, _≤_}
+-- Laws of the checks: a search's answer in their ladder, and what a job is that passes them. Assumes nothing.
+use Prim.Native.Nat.{ℕ, zero, suc, _-_, _<_, _≤_}
 use mathlib.Core.Bool.{Bool, true, false, cond, not, _||_}
-use mathlib.Core.Path.{_≡_, refl, sym, ap, _∙_, subst}
-use mathlib.Core.Logic.{⊎-elim}
-use native.Mathlib.Nat.{eq-or-lt-of-le, le-of-suc-le-suc}
-use native.Mathlib.Numerals.{add-one}
+use mathlib.Core.Path.{_≡_, refl, ap, subst}
 use native.Mathlib.Omega.{arith}
 use Rattle.job.specs.declared.Refusal.{Refusal}
 use Rattle.job.specs.declared.Refusal.the-variants.{BadLength, BadVersion, BadCounts, BadSize, BadVisibility, BadKind, BadAtom, BadCoordinate}
-use lib.Dec.{ltb, leb, eqb}
+use lib.Dec.{ltb, eqb}
 use lib.ListN.{length}
 use Rattle.job.specs.Bytes.{u8At, u16At, u32At}
 use Rattle.job.specs.declared.Checked.{Checked}
@@ -18,27 +15,7 @@ use Rattle.job.specs.Layout.{Whole, headOf, sizeOf}
 use borrow.Author.Tests.{eqb-true, ltb-false, not-false}
 use mathlib.Core.List.{List}
 use Rattle.job.specs.Check.{orFirst, sizes, contents, check, andThen, badVisibility, badKind, badAtom, badCoordinate}
-use Rattle.job.specs.Search.{orElse, first, last}
-
--- no index below n is taken
-pub first-none : (t : ℕ → Bool) (n : ℕ) → ((k : ℕ) → k < n → t k ≡ false) → first t n ≡ 0
-unfolding first
-first-none t zero h = refl
-first-none t (suc n) h = rw (first-none t n (λ k l. h k (omega arith)), h n (omega arith))
-
-first-suc : (t : ℕ → Bool) (n i : ℕ) → i < n → ((k : ℕ) → k < i → t k ≡ false) → t i ≡ true → first t n ≡ suc i
-unfolding first
-first-suc t zero i l h e = absurd (omega arith)
-first-suc t (suc n) i l h e =
-    ⊎-elim
-    (λ q. subst (λ (k : ℕ). orElse (first t n) (cond (t n) (suc n) zero) ≡ suc k) (sym q)
-    (rw (first-none t n (λ k m. h k (omega arith)), subst (λ (k : ℕ). t k ≡ true) q e)))
-    (λ m. rw (first-suc t n i m h e))
-    (eq-or-lt-of-le (le-of-suc-le-suc l))
-
--- i is the first that is taken
-pub first-at : (t : ℕ → Bool) (n i : ℕ) → i < n → ((k : ℕ) → k < i → t k ≡ false) → t i ≡ true → first t n ≡ i + 1
-first-at t n i l h e = first-suc t n i l h e ∙ sym (add-one i)
+use Rattle.buffers.specs.Search.{first}
 
 -- a search's answer in the ladder of checks
 pub orFirst-pos : (v : ℕ) (f : ℕ → Refusal) (rest : Checked) → 0 < v → orFirst v f rest ≡ Refused (f (v - 1))

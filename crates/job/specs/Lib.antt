@@ -1,5 +1,4 @@
 pub mod Bytes
-pub mod Search
 pub mod Layout
 pub mod Refusals
 pub mod Coordinate

@@ -3,7 +3,7 @@ ghost use mathlib.Core.Path.{_≡_};
 ghost use mathlib.Core.Bool.{Bool, not};
 ghost use Prim.Native.Nat.{_+_, _≤_, _<_};
 ghost use lib.ListN.{length};
-ghost use Rattle.job.specs.Search.{first};
+ghost use Rattle.buffers.specs.Search.{first};
 ghost use Rattle.job.specs.Bytes.{u8At, u16At, u32At, u64At};
 ghost use Rattle.job.specs.Coordinate.{within};
 ghost use Rattle.job.specs.Layout.{Whole, segmentAt, atomAt};

@@ -10,11 +10,11 @@ use lib.ListN.{length, getD, length-append, length-map}
 use borrow.Author.Tests.{eqb-true, eq-eqb, ne-eqb}
 use Rattle.buffers.specs.Put.{put}
 use Rattle.buffers.proofs.Puts.{kept, length-put, put-at, put-apart}
-use Rattle.job.specs.Search.{last}
+use Rattle.buffers.specs.Search.{last}
 use Rattle.appearance.specs.Order.{member, place, numbered}
 use Rattle.appearance.specs.Index.{isKey, Keyed}
 use Rattle.appearance.proofs.Laws.{or-true, or-no, member-append}
-use Rattle.appearance.proofs.Found.{last-taken}
+use Rattle.buffers.proofs.Searches.{last-taken}
 use Rattle.appearance.proofs.Numbers.{found-number, number-none, number-is, number-some}
 use Rattle.job_writer.specs.Job.{flat, segmentBytes, atomBytes}
 use Rattle.job_writer.specs.declared.JobAtom.{JobAtom}

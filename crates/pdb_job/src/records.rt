@@ -10,7 +10,7 @@ ghost use mathlib.Core.List.{List, [], _∷_};
 ghost use Prim.Native.Nat.{ℕ, _+_, _*_, _<_, _≤_};
 ghost use lib.ListN.{length, getD};
 ghost use Rattle.appearance.specs.Index.{Index, Keyed, isKey};
-ghost use Rattle.job.specs.Search.{last};
+ghost use Rattle.buffers.specs.Search.{last};
 ghost use Rattle.buffers.specs.Put.{put};
 ghost use Rattle.pdb_file.specs.Reading.{records, atomsIn, segmentsIn, atomsOf, segmentsOf, names, letters};
 ghost use Rattle.pdb_survey.specs.Tables.{Residues, Marks};
