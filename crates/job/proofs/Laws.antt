@@ -7,7 +7,7 @@ use Rattle.job.specs.declared.Refusal.{Refusal}
 use Rattle.job.specs.declared.Refusal.the-variants.{BadLength, BadVersion, BadCounts, BadSize, BadVisibility, BadKind, BadAtom, BadCoordinate}
 use lib.Dec.{ltb, eqb}
 use lib.ListN.{length}
-use Rattle.job.specs.Bytes.{u8At, u16At, u32At}
+use Rattle.numbers.specs.Bytes.{u8At, u16At, u32At}
 use Rattle.job.specs.declared.Checked.{Checked}
 use Rattle.job.specs.declared.Checked.the-variants.{Fine, Refused}
 use Rattle.job.specs.declared.Head.{Head}

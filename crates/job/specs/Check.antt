@@ -5,7 +5,7 @@ use mathlib.Core.Bool.{Bool, true, false, cond, not, _&&_, _||_}
 use lib.ListN.{length}
 use lib.Dec.{ltb, leb, eqb}
 use Rattle.buffers.specs.Search.{first}
-use Rattle.job.specs.Bytes.{u8At, u16At, u64At}
+use Rattle.numbers.specs.Bytes.{u8At, u16At, u64At}
 use Rattle.job.specs.Coordinate.{within}
 use Rattle.job.specs.Layout.{lengthField, versionOf, headOf, chainAt, segmentAt, atomAt, sizeOf, none}
 use Rattle.job.specs.declared.Head.{Head}

@@ -1,4 +1,3 @@
-pub mod Bytes
 pub mod Layout
 pub mod Refusals
 pub mod Coordinate

@@ -1,10 +1,12 @@
 // Job bytes: fields, layout, checks 1 to 8, and the refusals of every call (01, 'Job bytes' and 'Refusal numbers').
+use numbers::u16_at;
+use numbers::u32_at;
 ghost use mathlib.Core.Path.{_≡_};
 ghost use mathlib.Core.Bool.{Bool, not};
 ghost use Prim.Native.Nat.{_+_, _≤_, _<_};
 ghost use lib.ListN.{length};
 ghost use Rattle.buffers.specs.Search.{first};
-ghost use Rattle.job.specs.Bytes.{u8At, u16At, u32At, u64At};
+ghost use Rattle.numbers.specs.Bytes.{u64At};
 ghost use Rattle.job.specs.Coordinate.{within};
 ghost use Rattle.job.specs.Layout.{Whole, segmentAt, atomAt};
 ghost use Rattle.job.specs.Check.{sizes, contents, check, stray, badVisibility, badKind, badAtom, badCoordinate};
@@ -42,34 +44,6 @@ pub enum Refusal {
 pub enum Checked {
     Fine(Head),
     Refused(Refusal),
-}
-
-pub fn byte_at(b: &[u8], at: usize) -> usize
-    requires { ⌜ at < length (now b) ⌝ }
-    ensures { λ r. ⌜ (r ≡ u8At (now (b .entry)) at) × (r < 256) ⌝ }
-{
-    b[at] as usize
-}
-
-pub fn u16_at(b: &[u8], at: usize) -> usize
-    requires { ⌜ at + 2 ≤ length (now b) ⌝ }
-    ensures { λ r. ⌜ (r ≡ u16At (now (b .entry)) at) × (r < 65536) ⌝ }
-{
-    byte_at(b, at) * 256 + byte_at(b, at + 1)
-}
-
-pub fn u32_at(b: &[u8], at: usize) -> usize
-    requires { ⌜ at + 4 ≤ length (now b) ⌝ }
-    ensures { λ r. ⌜ (r ≡ u32At (now (b .entry)) at) × (r < 4294967296) ⌝ }
-{
-    u16_at(b, at) * 65536 + u16_at(b, at + 2)
-}
-
-pub fn u64_at(b: &[u8], at: usize) -> u64
-    requires { ⌜ at + 8 ≤ length (now b) ⌝ }
-    ensures { λ r. ⌜ r ≡ u64At (now (b .entry)) at ⌝ }
-{
-    (u32_at(b, at) * 4294967296 + u32_at(b, at + 4)) as u64
 }
 
 pub fn segment_at(h: Head, i: usize) -> usize

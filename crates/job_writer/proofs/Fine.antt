@@ -8,7 +8,7 @@ use native.Mathlib.Omega.{arith}
 use lib.Dec.{eqb}
 use lib.ListN.{length, drop}
 use borrow.Author.Tests.{le-ltb, eq-eqb, lt-leb}
-use Rattle.job.specs.Bytes.{u8At, u16At, u32At, u64At}
+use Rattle.numbers.specs.Bytes.{u8At, u16At, u32At, u64At}
 use Rattle.job.specs.Coordinate.{within}
 use Rattle.job.specs.Layout.{headOf, sizeOf, none}
 use Rattle.job.specs.Check.{sizes, contents, check, andThen, stray, badVisibility, badKind, badAtom, badCoordinate}

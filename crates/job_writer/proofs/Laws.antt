@@ -3,35 +3,14 @@ use Prim.Native.Nat.{ℕ, zero, suc, _+_, _*_}
 use mathlib.Core.Path.{_≡_, refl, sym, ap, _∙_}
 use mathlib.Core.List.{List, [], _∷_, _++_, append-assoc}
 use native.Mathlib.Nat.{mul-suc, add-comm}
-use native.Mathlib.Numerals.{add-one}
 use native.Mathlib.Omega.{arith}
-use lib.ListN.{length, set, replicate, length-append, length-replicate}
+use lib.ListN.{length, replicate, length-append, length-replicate}
 use Rattle.buffers.specs.Put.{put, upto}
-use Rattle.buffers.proofs.Puts.{next}
-use Rattle.job_writer.specs.Bytes.{u16, u32, u64}
+use Rattle.numbers.specs.Bytes.{u16, u32, u64}
+use Rattle.numbers.proofs.Laws.{seq}
 use Rattle.job_writer.specs.Job.{flat, segmentBytes, point, atomBytes, headBytes, jobBytes}
 use Rattle.job_writer.specs.declared.JobAtom.{JobAtom}
 use Rattle.job_writer.specs.declared.JobSegment.{JobSegment}
-
-pub len16 : (n : ℕ) → length (u16 n) ≡ 2
-unfolding u16
-len16 n = refl
-
-pub len32 : (n : ℕ) → length (u32 n) ≡ 4
-unfolding u16 u32
-len32 n = refl
-
-pub len64 : (n : ℕ) → length (u64 n) ≡ 8
-unfolding u16 u32 u64
-len64 n = refl
-
--- xs is written, w long, and what comes after it
-pub seq : (l b : List ℕ) (i j w : ℕ) (xs ys : List ℕ) {b′ : List ℕ} → length xs ≡ w → j ≡ i + w → b ≡ put l i xs → b′ ≡ put b j ys → b′ ≡ put l i (xs ++ ys)
-seq l b i j w xs ys q h e e′ = next l b i j xs ys e′ e (h ∙ ap (λ (n : ℕ). i + n) (sym q))
-
-pub two : (l : List ℕ) (j x y : ℕ) → set (set l j x) (j + 1) y ≡ put l j (x ∷ y ∷ [])
-unfolding put
-two l j x y = ap (λ (k : ℕ). set (set l j x) k y) (add-one j)
 
 snoc : (n x : ℕ) → replicate n x ++ (x ∷ []) ≡ replicate (suc n) x
 snoc zero x = refl

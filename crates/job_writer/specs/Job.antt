@@ -2,7 +2,7 @@
 use Prim.Native.Nat.{ℕ, _+_, _*_}
 use mathlib.Core.List.{List, [], _∷_, _++_}
 use lib.ListN.{length, replicate}
-use Rattle.job_writer.specs.Bytes.{u16, u32, u64}
+use Rattle.numbers.specs.Bytes.{u16, u32, u64}
 use Rattle.job_writer.specs.declared.JobAtom.{JobAtom}
 use Rattle.job_writer.specs.declared.JobSegment.{JobSegment}
 

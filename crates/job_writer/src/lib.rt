@@ -1,10 +1,12 @@
 // Writes a job's bytes, record by record.
+use numbers::put_byte;
+use numbers::put_u16;
+use numbers::put_u32;
+use numbers::put_u64;
 ghost use mathlib.Core.Path.{_≡_};
-ghost use mathlib.Core.List.{[], _∷_};
 ghost use Prim.Native.Nat.{_+_, _*_, _<_, _≤_};
 ghost use lib.ListN.{length, replicate};
 ghost use Rattle.buffers.specs.Put.{put};
-ghost use Rattle.job_writer.specs.Bytes.{u16, u32, u64};
 ghost use Rattle.job_writer.specs.Job.{segmentBytes, point, atomBytes, headBytes};
 
 pub struct JobAtom {
@@ -21,37 +23,6 @@ pub struct JobSegment {
     pub kind: u8,
     pub start: u64,
     pub end: u64,
-}
-
-pub fn put_u16(out: &mut [u8], at: usize, n: u64)
-    requires { ⌜ at + 2 ≤ length (now out) ⌝ }
-    ensures { λ _. ⌜ now (out .exit) ≡ put (now (out .entry)) at (u16 n) ⌝ }
-{
-    out[at] = (n / 256 % 256) as u8;
-    out[at + 1] = (n % 256) as u8;
-}
-
-pub fn put_u32(out: &mut [u8], at: usize, n: u64)
-    requires { ⌜ at + 4 ≤ length (now out) ⌝ }
-    ensures { λ _. ⌜ now (out .exit) ≡ put (now (out .entry)) at (u32 n) ⌝ }
-{
-    put_u16(out, at, n / 65536);
-    put_u16(out, at + 2, n);
-}
-
-pub fn put_u64(out: &mut [u8], at: usize, n: u64)
-    requires { ⌜ at + 8 ≤ length (now out) ⌝ }
-    ensures { λ _. ⌜ now (out .exit) ≡ put (now (out .entry)) at (u64 n) ⌝ }
-{
-    put_u32(out, at, n / 4294967296);
-    put_u32(out, at + 4, n);
-}
-
-pub fn put_byte(out: &mut [u8], at: usize, n: u8)
-    requires { ⌜ at < length (now out) ⌝ }
-    ensures { λ _. ⌜ now (out .exit) ≡ put (now (out .entry)) at (n ∷ []) ⌝ }
-{
-    out[at] = n;
 }
 
 pub fn put_point(out: &mut [u8], at: usize, x: u64, y: u64, z: u64)

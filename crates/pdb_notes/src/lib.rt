@@ -26,10 +26,10 @@ fn tell_counts(job: &[u8], alphas: usize) {
     if job.len() < 13 {
         return;
     }
-    say_number(b"note: read: chains ", job::u16_at(job, 5));
-    say_number(b" residues ", job::u16_at(job, 7));
-    say_number(b" segments ", job::u16_at(job, 9));
-    say_number(b" atoms ", job::u16_at(job, 11));
+    say_number(b"note: read: chains ", numbers::u16_at(job, 5));
+    say_number(b" residues ", numbers::u16_at(job, 7));
+    say_number(b" segments ", numbers::u16_at(job, 9));
+    say_number(b" atoms ", numbers::u16_at(job, 11));
     say_number(b" C-alphas ", alphas);
     say(b"\n");
 }
@@ -88,7 +88,7 @@ fn has_atoms(job: &[u8]) -> bool {
     if job.len() < 13 {
         return false;
     }
-    0 < job::u16_at(job, 11)
+    0 < numbers::u16_at(job, 11)
 }
 
 fn tell_alphas(alphas: usize) {

@@ -16,7 +16,7 @@ use Rattle.job.specs.declared.Checked.the-variants.{Fine}
 use Rattle.job.specs.declared.Refusal.{Refusal}
 use Rattle.job.specs.declared.Refusal.the-variants.{ShortLine, BadNumber, AbsentResidue, PastLimits, NoJobRoom}
 use Rattle.appearance.specs.Order.{distinct}
-use Rattle.job_writer.specs.Bytes.{u16, u32}
+use Rattle.numbers.specs.Bytes.{u16, u32}
 use Rattle.job_writer.specs.Job.{flat, headBytes, jobBytes, atomBytes}
 use Rattle.job_writer.proofs.Laws.{wide-atom}
 use Rattle.job_writer.proofs.Readback.{job-size}

@@ -12,7 +12,7 @@ use Rattle.buffers.specs.Put.{put}
 use Rattle.job.specs.declared.Refusal.the-variants.{PastLimits, NoJobRoom}
 use Rattle.appearance.specs.Order.{distinct, member, place}
 use Rattle.coordinates.specs.Coordinate.{coordinate, bits}
-use Rattle.job_writer.specs.Bytes.{u16, u32, u64}
+use Rattle.numbers.specs.Bytes.{u16, u32, u64}
 use Rattle.job_writer.specs.Job.{flat, point, atomBytes, headBytes, jobBytes}
 use Rattle.pdb_fields.specs.Numbers.{run, decimal, whole, thousandths}
 use Rattle.pdb_lines.specs.Lines.{lines}

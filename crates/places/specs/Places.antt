@@ -6,7 +6,7 @@ use lib.Ieee.{Float, binary32, binary64, ofBits, lt}
 use Rattle.floats.specs.Floats.{narrowed}
 use Rattle.vectors.specs.declared.Vec3.{Vec3}
 use Rattle.vectors.specs.Vec.{vec, vsub, vlength, lit}
-use Rattle.job.specs.Bytes.{u64At}
+use Rattle.numbers.specs.Bytes.{u64At}
 use Rattle.job.specs.Layout.{atomAt}
 use Rattle.job.specs.declared.Head.{Head}
 

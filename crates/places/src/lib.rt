@@ -13,9 +13,9 @@ pub fn place(b: &[u8], h: Head, a: usize) -> Vec3
     ensures { λ r. ⌜ r ≡ placeOf (now (b .entry)) h a ⌝ }
 {
     let at = job::atom_at(h, a - 1);
-    let x = floats::narrow::narrow(job::u64_at(b, at + 9));
-    let y = floats::narrow::narrow(job::u64_at(b, at + 17));
-    let z = floats::narrow::narrow(job::u64_at(b, at + 25));
+    let x = floats::narrow::narrow(numbers::u64_at(b, at + 9));
+    let y = floats::narrow::narrow(numbers::u64_at(b, at + 17));
+    let z = floats::narrow::narrow(numbers::u64_at(b, at + 25));
     Vec3 { x, y, z }
 }
 

@@ -1,4 +1,5 @@
 // The answer to one request to the ribbon builder, sent to a sink. Each call gets buffers that hold the patterns of the protocol; the calls are those that C links.
+use numbers::words::get_words;
 use stream::patterns::fill_bytes;
 use stream::patterns::fill_floats;
 use stream::patterns::fill_words;
@@ -8,7 +9,6 @@ use stream::sink::Sink;
 use stream::sink::send_bytes;
 use stream::sink::send_floats;
 use stream::sink::send_words;
-use stream::words::get_words;
 ghost use mathlib.Core.Path.{_≡_};
 ghost use Prim.Native.Nat.{_+_, _*_};
 ghost use lib.ListN.{length};

@@ -1,21 +1,10 @@
 -- What the proofs of this crate share. Assumes nothing.
-use mathlib.Core.Path.{_≡_, refl, sym, ap, _∙_}
-use mathlib.Core.List.{List, [], _∷_}
+use mathlib.Core.Path.{_≡_}
 use mathlib.Core.Bool.{Bool, true, false, not}
-use Prim.Native.Nat.{ℕ, _+_, _/_, _%_, _<_}
+use Prim.Native.Nat.{ℕ, _+_, _/_, _%_}
 use native.Mathlib.Omega.{arith}
-use lib.Dec.{T, eqb}
-use lib.ListN.{set}
+use lib.Dec.{T}
 use lib.Ieee.{binary32, nanBits}
-use borrow.Author.Tests.{ne-eqb}
-use Rattle.buffers.specs.Put.{put}
-use Rattle.buffers.proofs.Puts.{put3, put-at}
-
--- four stores in a row are one write
-pub put4 : (l : List ℕ) (j a b c d : ℕ)
-    → set (set (set (set l j a) (j + 1) b) (j + 2) c) (j + 3) d ≡ put l j (a ∷ b ∷ c ∷ d ∷ [])
-unfolding put
-put4 l j a b c d = ap (λ (m : List ℕ). set m (j + 3) d) (put3 l j a b c) ∙ put-at l j (j + 3) (a ∷ b ∷ c ∷ []) (d ∷ []) refl
 
 -- no pattern of a float buffer is a NaN's: the exponent's field is 128
 pub pattern-no-nan : (i : ℕ) → T (not (nanBits binary32 (0x40000000 + i % 65536)))

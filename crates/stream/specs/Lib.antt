@@ -1,4 +1,3 @@
-pub mod Words
 pub mod Patterns
 pub mod Requests
 pub mod Sinks

@@ -2,4 +2,3 @@
 pub mod patterns;
 pub mod requests;
 pub mod sink;
-pub mod words;

@@ -29,20 +29,20 @@ pub fn request_of(head: &[u8]) -> Request
     ensures { λ r. ⌜ (r ≡ requestOf (now (head .entry))) × Small r ⌝ }
 {
     let lent = Lengths {
-        positions: job::u32_at(head, 1),
-        normals: job::u32_at(head, 5),
-        tags: job::u32_at(head, 9),
-        triangles: job::u32_at(head, 13),
-        tubes: job::u32_at(head, 17),
-        boxes: job::u32_at(head, 21),
-        words: job::u32_at(head, 25),
-        floats: job::u32_at(head, 29),
+        positions: numbers::u32_at(head, 1),
+        normals: numbers::u32_at(head, 5),
+        tags: numbers::u32_at(head, 9),
+        triangles: numbers::u32_at(head, 13),
+        tubes: numbers::u32_at(head, 17),
+        boxes: numbers::u32_at(head, 21),
+        words: numbers::u32_at(head, 25),
+        floats: numbers::u32_at(head, 29),
     };
     Request {
         call: head[0],
         lent,
-        k: job::u32_at(head, 33),
-        bytes: job::u32_at(head, 37),
+        k: numbers::u32_at(head, 33),
+        bytes: numbers::u32_at(head, 37),
     }
 }
 

@@ -3,9 +3,9 @@ ghost use mathlib.Core.Path.{_≡_};
 ghost use Prim.Native.Nat.{_+_, _*_, _≤_, _<_, min};
 ghost use lib.ListN.{length};
 ghost use Rattle.stream.specs.Sinks.{Ready};
-use crate::words::put_bytes;
-use crate::words::put_floats;
-use crate::words::put_words;
+use numbers::words::put_bytes;
+use numbers::words::put_floats;
+use numbers::words::put_words;
 
 pub enum Mode {
     Write,

@@ -5,7 +5,7 @@ use mathlib.Core.List.{List}
 use mathlib.Core.Bool.{Bool, not, _&&_}
 use lib.Dec.{eqb, leb}
 use Rattle.buffers.specs.Search.{first, last}
-use Rattle.job.specs.Bytes.{u8At, u16At, u32At}
+use Rattle.numbers.specs.Bytes.{u8At, u16At, u32At}
 use Rattle.job.specs.Layout.{chainAt, segmentAt, atomAt, none}
 use Rattle.job.specs.declared.Head.{Head}
 use Rattle.tables.specs.declared.Range.{Range}

@@ -52,28 +52,28 @@ fn has_role(b: &[u8], h: Head, a: usize, role: usize) -> bool
     requires { ⌜ Whole (now b) h × a < h .atoms ⌝ }
     ensures { λ r. ⌜ r ≡ eqb (jobOf (now (b .entry)) h .role a) role ⌝ }
 {
-    job::byte_at(b, job::atom_at(h, a) + 4) == role
+    numbers::byte_at(b, job::atom_at(h, a) + 4) == role
 }
 
 fn serial(b: &[u8], h: Head, a: usize) -> usize
     requires { ⌜ Whole (now b) h × a < h .atoms ⌝ }
     ensures { λ r. ⌜ r ≡ jobOf (now (b .entry)) h .serial a ⌝ }
 {
-    job::u32_at(b, job::atom_at(h, a))
+    numbers::u32_at(b, job::atom_at(h, a))
 }
 
 fn residue(b: &[u8], h: Head, a: usize) -> usize
     requires { ⌜ Whole (now b) h × a < h .atoms ⌝ }
     ensures { λ r. ⌜ r ≡ jobOf (now (b .entry)) h .residue a ⌝ }
 {
-    job::u16_at(b, job::atom_at(h, a) + 5)
+    numbers::u16_at(b, job::atom_at(h, a) + 5)
 }
 
 fn chain(b: &[u8], h: Head, a: usize) -> usize
     requires { ⌜ Whole (now b) h × a < h .atoms ⌝ }
     ensures { λ r. ⌜ (r ≡ jobOf (now (b .entry)) h .chain a) × (r < 65536) ⌝ }
 {
-    job::u16_at(b, job::atom_at(h, a) + 7)
+    numbers::u16_at(b, job::atom_at(h, a) + 7)
 }
 
 fn is_wanted(b: &[u8], h: Head, w: Want, a: usize) -> bool

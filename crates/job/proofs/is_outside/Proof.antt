@@ -1,5 +1,5 @@
 use native.Mathlib.Omega.{arith}
-use Rattle.job.specs.Bytes.{u64At}
+use Rattle.numbers.specs.Bytes.{u64At}
 use Rattle.job.proofs.Coordinate.{below-limit, above-limit, at-limit}
 use borrow.Author.Needs.{needs}
 use Rattle.job.proofs.is_outside.Statement.{statement}

@@ -1,6 +1,6 @@
 use mathlib.Core.Path.{refl}
 use Rattle.job_writer.specs.Job.{headBytes}
-use Rattle.job_writer.proofs.Laws.{seq, len16, len32}
+use Rattle.numbers.proofs.Laws.{seq, len16, len32}
 use borrow.Author.Needs.{needs}
 use Rattle.job_writer.proofs.put_head.Statement.{statement}
 use Rattle.job_writer.proofs.put_head.Tie as tie

@@ -2,7 +2,7 @@ use Prim.Native.Nat.{_+_}
 use mathlib.Core.Path.{_≡_, refl}
 use native.Mathlib.Omega.{arith}
 use Rattle.job_writer.specs.Job.{point}
-use Rattle.job_writer.proofs.Laws.{seq, len64}
+use Rattle.numbers.proofs.Laws.{seq, len64}
 use borrow.Author.Needs.{needs}
 use Rattle.job_writer.proofs.put_point.Statement.{statement}
 use Rattle.job_writer.proofs.put_point.Tie as tie

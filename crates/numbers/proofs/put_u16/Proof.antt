@@ -1,0 +1,26 @@
+use native.Mathlib.Omega.{arith}
+use lib.ListN.{length-set}
+use Rattle.numbers.specs.Bytes.{u16}
+use Rattle.numbers.proofs.Laws.{two}
+use borrow.Author.Needs.{needs}
+use Rattle.numbers.proofs.put_u16.Statement.{statement}
+use Rattle.numbers.proofs.put_u16.Tie as tie
+
+slice-write-out-2 : tie.Need-slice-write-out-2
+slice-write-out-2 c = simp length-set (omega arith)
+
+returns : tie.Need-returns
+unfolding u16
+returns c = two _ _ _ _
+
+pub put-u16-spec : {M : Type 1} → statement M
+put-u16-spec =
+    tie.close
+    (tie.spec
+    (λ c. search needs)
+    (λ c. search needs)
+    (λ c. search needs)
+    (λ c. search needs)
+    slice-write-out-2
+    (λ c. search needs)
+    returns)
