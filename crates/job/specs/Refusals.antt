@@ -1,6 +1,7 @@
 -- The refusals of every call: the number and the carried values of each (01, 'Refusal numbers'; 02 §1, 'Refusals').
 use Prim.Native.Nat.{ℕ}
 use mathlib.Core.List.{List, [], _∷_}
+use lib.ListN.{getD}
 use Rattle.job.specs.declared.Refusal.{Refusal}
 use Rattle.job.specs.declared.Refusal.the-variants.{BadLength, BadVersion, BadCounts, BadSize, BadVisibility, BadKind, BadAtom, BadCoordinate, NoScratch, TooManyVertices, NoRoom, ShortLine, BadNumber, AbsentResidue, PastLimits, NoJobRoom}
 
@@ -41,3 +42,11 @@ carried (BadNumber n) = n ∷ []
 carried (AbsentResidue n) = n ∷ []
 carried PastLimits = 0 ∷ []
 carried (NoJobRoom n) = n ∷ []
+
+-- the first three values of a list, 0 where there is none
+abbrev pub three : List ℕ → List ℕ
+three l = getD l 0 0 ∷ getD l 1 0 ∷ getD l 2 0 ∷ []
+
+-- a refusal as four numbers, for programs and for C: its own, and what it carries
+abbrev pub refusalNumbers : Refusal → List ℕ
+refusalNumbers r = numberOf r ∷ three (carried r)

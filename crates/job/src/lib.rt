@@ -8,6 +8,7 @@ ghost use lib.ListN.{length};
 ghost use Rattle.buffers.specs.Search.{first};
 ghost use Rattle.numbers.specs.Bytes.{u64At};
 ghost use Rattle.job.specs.Coordinate.{within};
+ghost use Rattle.job.specs.Refusals.{refusalNumbers};
 ghost use Rattle.job.specs.Layout.{Whole, segmentAt, atomAt};
 ghost use Rattle.job.specs.Check.{sizes, contents, check, stray, badVisibility, badKind, badAtom, badCoordinate};
 
@@ -44,6 +45,30 @@ pub enum Refusal {
 pub enum Checked {
     Fine(Head),
     Refused(Refusal),
+}
+
+// A refusal's number, and the three values that it carries at most, 0 for those that it has not.
+pub fn refusal_numbers(r: Refusal) -> [usize; 4]
+    ensures { λ a. ⌜ a ≡ refusalNumbers r ⌝ }
+{
+    match r {
+        Refusal::BadLength => [1, 0, 0, 0],
+        Refusal::BadVersion(v) => [2, v as usize, 0, 0],
+        Refusal::BadCounts => [3, 0, 0, 0],
+        Refusal::BadSize => [4, 0, 0, 0],
+        Refusal::BadVisibility(i) => [5, i, 0, 0],
+        Refusal::BadKind(i) => [6, i, 0, 0],
+        Refusal::BadAtom(i) => [7, i, 0, 0],
+        Refusal::BadCoordinate(i) => [8, i, 0, 0],
+        Refusal::NoScratch => [9, 0, 0, 0],
+        Refusal::TooManyVertices => [10, 0, 0, 0],
+        Refusal::NoRoom(k, v, t) => [11, k, v, t],
+        Refusal::ShortLine(n) => [12, n, 0, 0],
+        Refusal::BadNumber(n) => [13, n, 0, 0],
+        Refusal::AbsentResidue(n) => [14, n, 0, 0],
+        Refusal::PastLimits => [15, 0, 0, 0],
+        Refusal::NoJobRoom(n) => [16, n, 0, 0],
+    }
 }
 
 pub fn segment_at(h: Head, i: usize) -> usize

@@ -1,7 +1,7 @@
 -- Answers as numbers, in 01's order, and as words.
 use Prim.Native.Nat.{ℕ, _%_}
 use mathlib.Core.List.{List, [], _∷_, _++_}
-use Rattle.answers.specs.Numbers.{refusalNumbers}
+use Rattle.job.specs.Refusals.{refusalNumbers}
 use Rattle.pdb_reader.specs.declared.Read.{Read}
 use Rattle.pdb_reader.specs.declared.Read.the-variants.{Written, NoJob}
 use Rattle.ribbon.specs.declared.Built.{Built}

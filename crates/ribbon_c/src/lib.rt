@@ -5,7 +5,7 @@ use ribbon::Built;
 use ribbon::Planned;
 ghost use mathlib.Core.Path.{_≡_};
 ghost use lib.ListN.{length};
-ghost use Rattle.answers.specs.Numbers.{refusalNumbers};
+ghost use Rattle.job.specs.Refusals.{refusalNumbers};
 ghost use Rattle.mesh.specs.Outs.{outs};
 ghost use Rattle.ribbon.specs.Calls.{buildAnswer, planAnswer, outsAfter, wordsAfter, floatsAfter};
 ghost use Rattle.room.specs.Room.{lent};
@@ -22,7 +22,7 @@ fn word(n: usize) -> u32
 fn refusal_words(r: Refusal) -> [u32; 4]
     ensures { λ w. ⌜ w ≡ wordsOf (refusalNumbers r) ⌝ }
 {
-    let n = answers::refusal_numbers(r);
+    let n = job::refusal_numbers(r);
     [word(n[0]), word(n[1]), word(n[2]), word(n[3])]
 }
 

@@ -11,10 +11,9 @@ use lib.ListN.{length, take, getD, length-append}
 use lib.Seq.{take-suc, take-length, length-take-le}
 use borrow.Author.Tests.{ltb-true, ltb-false}
 use Rattle.buffers.specs.Put.{put, upto}
-use Rattle.job.specs.Refusals.{numberOf, carried}
+use Rattle.job.specs.Refusals.{numberOf, carried, refusalNumbers}
 use Rattle.job.specs.declared.Refusal.{Refusal}
 use Rattle.job.specs.declared.Refusal.the-variants.{BadLength, BadVersion, BadCounts, BadSize, BadVisibility, BadKind, BadAtom, BadCoordinate, NoScratch, TooManyVertices, NoRoom, ShortLine, BadNumber, AbsentResidue, PastLimits, NoJobRoom}
-use Rattle.answers.specs.Numbers.{refusalNumbers}
 use Rattle.io.specs.Counts.{Counts}
 use Rattle.io.specs.Digits.{digits, Fewest, glyph}
 use Rattle.buffers.proofs.Puts.{next}

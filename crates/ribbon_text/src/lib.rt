@@ -76,7 +76,7 @@ fn put_carried(out: &mut [u8], at: usize, r: Refusal) -> usize
     requires { ⌜ at + 63 ≤ length (now out) ⌝ }
     ensures { λ a. ⌜ Wrote (now (out .entry)) at (listed (carried r)) (now (out .exit)) a × (a ≤ at + 63) ⌝ }
 {
-    let n = answers::refusal_numbers(r);
+    let n = job::refusal_numbers(r);
     let a = put_field(out, at, b" ", n[1]);
     if n[0] != 11 {
         return a;
@@ -90,7 +90,7 @@ pub fn refused_line(out: &mut [u8], r: Refusal) -> usize
     ensures { λ a. ⌜ Wrote (now (out .entry)) 0 (refusedLine r) (now (out .exit)) a ⌝ }
     ensures { λ a. ⌜ Counts a (now (out .exit)) ⌝ }
 {
-    let n = answers::refusal_numbers(r);
+    let n = job::refusal_numbers(r);
     let a = put_field(out, 0, b"refused ", n[0]);
     let b = put_carried(out, a, r);
     put_text(out, b, b"\n")

@@ -1,6 +1,6 @@
 use borrow.Author.Needs.{needs}
-use Rattle.answers.proofs.refusal_numbers.Statement.{statement}
-use Rattle.answers.proofs.refusal_numbers.Tie as tie
+use Rattle.job.proofs.refusal_numbers.Statement.{statement}
+use Rattle.job.proofs.refusal_numbers.Tie as tie
 
 returns : tie.Need-returns
 returns c = rw (c .enum-told .given .1)
