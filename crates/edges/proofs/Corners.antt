@@ -6,7 +6,7 @@ use Prim.Native.Nat.{ℕ, zero, suc, _+_, _*_, _-_, _≤_, _<_}
 use native.Mathlib.Nat.{eq-zero-or-pos}
 use native.Mathlib.Omega.{arith}
 use lib.ListN.{length, getD}
-use Rattle.edges.specs.Sound.{edges, is, occurs, Each, CornersDiffer, Sound}
+use Rattle.edges.specs.Sound.{is, occurs, Each, CornersDiffer, Sound}
 use Rattle.edges.proofs.Count.{is-or, is-same}
 use Rattle.edges.proofs.Stack.{Closed}
 

@@ -10,7 +10,7 @@ use lib.Dec.{T, eqb, eqb→eq, eqb-refl}
 use lib.ListN.{length}
 use Rattle.buffers.specs.Put.{upto}
 use Rattle.buffers.proofs.Puts.{length-upto}
-use Rattle.edges.specs.Sound.{edges, is, occurs}
+use Rattle.edges.specs.Sound.{is, occurs}
 use Rattle.edges.specs.Tube.{next}
 
 -- ---- two numbers

@@ -1,6 +1,6 @@
 -- Whole roots: what `floorRoot` is, how it goes with a scale, and that a nearest whole root is one only. Nothing here is about floats. Assumes nothing.
 use mathlib.Core.Path.{_≡_, refl, sym, ap, _∙_, subst}
-use Prim.Native.Nat.{ℕ, zero, suc, _+_, _-_, _*_, _/_, _^_, _≤_, _<_}
+use Prim.Native.Nat.{ℕ, zero, suc, _+_, _*_, _/_, _^_, _≤_, _<_}
 use native.Mathlib.Nat.{le-trans, le-of-eq, le-of-lt, le-antisymm, le-of-suc-le-suc, lt-of-lt-of-le, lt-of-le-of-lt, lt-of-not-le, not-le-of-lt, add-comm, add-assoc, mul-comm, mul-mul-mul-comm, mul-add, add-mul, suc-mul, mul-suc, mul-le-mul, mul-le-mul-right, mul-lt-mul-of-pos-right, pow-succ', le-div-iff-mul-le, div-lt-iff-lt-mul, one-mul, mul-one}
 use native.Mathlib.Numerals.{add-one}
 use native.Mathlib.Omega.{arith}

@@ -3,7 +3,7 @@ use Prim.Native.Nat.{ℕ, _+_, _*_, _≤_}
 use mathlib.Core.List.{List}
 use mathlib.Core.Path.{_≡_}
 use lib.ListN.{length}
-use Rattle.numbers.specs.Bytes.{u8At, u16At, u32At, u64At}
+use Rattle.numbers.specs.Bytes.{u8At, u16At, u32At}
 use Rattle.job.specs.declared.Head.{Head}
 
 -- 'u32: bytes that follow these four. u8 version'

@@ -1,5 +1,5 @@
 -- Lines of a PDB file by what they tell a person of it. No answer of a call depends on them.
-use Prim.Native.Nat.{ℕ, _-_}
+use Prim.Native.Nat.{ℕ}
 use mathlib.Core.List.{List, [], _∷_}
 use mathlib.Core.Bool.{Bool, true, false, _&&_, _||_, cond}
 use lib.Dec.{eqb, leb}

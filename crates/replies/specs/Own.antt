@@ -1,6 +1,6 @@
 -- What holds of a request that is served.
 use mathlib.Core.Path.{_≡_}
-use Prim.Native.Nat.{ℕ, _+_, _*_, _<_}
+use Prim.Native.Nat.{ℕ, _+_, _*_}
 use Rattle.stream.specs.declared.requests.Lengths.{Lengths}
 use Rattle.stream.specs.declared.requests.Request.{Request}
 

@@ -2,20 +2,19 @@
 use mathlib.Core.Path.{_≡_, refl, sym, ap, _∙_}
 use mathlib.Core.List.{List, [], _∷_, _++_, append-assoc, append-nil}
 use mathlib.Core.Bool.{Bool, true, false, cond}
-use mathlib.Core.Logic.{⊎-elim}
-use Prim.Native.Nat.{ℕ, zero, suc, _+_, _-_, _*_, _/_, _%_, _^_, _≤_, _<_}
+use Prim.Native.Nat.{ℕ, zero, suc, _+_, _-_, _*_, _/_, _^_, _≤_, _<_}
 use native.Mathlib.Nat.{pow-suc, pow-le-pow-right}
 use native.Mathlib.Omega.{arith}
 use lib.Dec.{ltb}
 use lib.ListN.{length, take, getD, length-append}
 use lib.Seq.{take-suc, take-length, length-take-le}
 use borrow.Author.Tests.{ltb-true, ltb-false}
-use Rattle.buffers.specs.Put.{put, upto}
+use Rattle.buffers.specs.Put.{upto}
 use Rattle.job.specs.Refusals.{numberOf, carried, refusalNumbers}
 use Rattle.job.specs.declared.Refusal.{Refusal}
 use Rattle.job.specs.declared.Refusal.the-variants.{BadLength, BadVersion, BadCounts, BadSize, BadVisibility, BadKind, BadAtom, BadCoordinate, NoScratch, TooManyVertices, NoRoom, ShortLine, BadNumber, AbsentResidue, PastLimits, NoJobRoom}
 use Rattle.io.specs.Counts.{Counts}
-use Rattle.io.specs.Digits.{digits, Fewest, glyph}
+use Rattle.io.specs.Digits.{digits, Fewest}
 use Rattle.buffers.proofs.Puts.{next}
 use Rattle.ribbon_text.specs.Text.{width, decimal, field, blankName, listed, Wrote}
 

@@ -1,5 +1,5 @@
 -- Checks 9 to 11, and the scratch after a call that passed check 9: 01, 'Refusal numbers' and 'Lent buffers'.
-use Prim.Native.Nat.{ℕ, _+_, _*_}
+use Prim.Native.Nat.{ℕ, _*_}
 use mathlib.Core.List.{List, _++_}
 use mathlib.Core.Bool.{Bool, _||_}
 use lib.ListN.{length, drop, replicate}

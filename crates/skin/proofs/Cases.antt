@@ -1,7 +1,7 @@
 -- Worked cases of a tube's shape, each a test that antt computes. Assumes nothing.
 use mathlib.Core.Bool.{Bool, true, false, _&&_}
 use mathlib.Core.List.{List, [], _∷_, _++_}
-use Prim.Native.Nat.{ℕ, _+_, _-_}
+use Prim.Native.Nat.{ℕ}
 use lib.Count.{trailingZeros}
 use lib.Dec.{T, eqb}
 use lib.ListN.{replicate}

@@ -1,11 +1,11 @@
 -- THE TABLE: every starred bench case of 01, over the definitions that the promises use, as one theorem, `starred-hold`. Each case is a test that antt computes.
-use Prim.Native.Nat.{ℕ, _*_}
+use Prim.Native.Nat.{ℕ}
 use mathlib.Core.Bool.{Bool, true, not, _&&_}
 use mathlib.Core.List.{List, [], _∷_, _++_}
 use lib.Dec.{T}
 use lib.ListN.{replicate}
 use Rattle.floats.proofs.Cases as float
-use Rattle.edges.specs.Cases.{givesRings, gives, allGive, trianglesFrom}
+use Rattle.edges.specs.Cases.{givesRings, gives, trianglesFrom}
 use Rattle.skin.proofs.Cases.{halfIs, tagsAre, firstIs}
 use Rattle.tubes.specs.Tubes.{Tube}
 use Rattle.tubes.specs.declared.Source.the-variants.{Coils, Segment}

@@ -1,11 +1,11 @@
 -- The answers of build and plan, as tests that compute: 'Vertex room 349 gives 11, 350 succeeds'.
 use Prim.Native.Nat.{ℕ, _*_}
-use mathlib.Core.Bool.{Bool, true, false, cond, _&&_, _||_}
+use mathlib.Core.Bool.{Bool, _&&_}
 use mathlib.Core.List.{List, [], _∷_}
-use lib.Dec.{eqb, ltb}
+use lib.Dec.{eqb}
 use lib.Count.{trailingZeros}
 use lib.ListN.{length}
-use lib.Ieee.{Float, ofBits, ofFields, odd, le, lt, eq, round, add, sub, mul}
+use lib.Ieee.{ofBits, ofFields, odd, le, lt, eq, round, add, sub, mul}
 use Rattle.floats.specs.Floats.{narrowed, root}
 use Rattle.vectors.specs.Vec.{vsub, vdot, vlength}
 use Rattle.buffers.specs.Search.{first, last}
@@ -19,9 +19,8 @@ use Rattle.edges.specs.Cases.{sameWords}
 use Rattle.tubes.specs.Pieces.{pieces, apart}
 use Rattle.tubes.specs.Frames.{chosen}
 use Rattle.tubes.specs.Tubes.{shown, coilAlpha, segmentAlpha, alphaOf, frames, counts, any, covered, gap, tubeOf, tubesOf, runTubes, segmentTubes, joined, loose, joins, extended, coilTubes, tubes}
-use Rattle.mesh.specs.Protein.{proteinOf, tubeList}
+use Rattle.mesh.specs.Protein.{tubeList}
 use Rattle.mesh.specs.Mesh.{vertexSum, triangleSum}
-use Rattle.walk.specs.declared.Five.{Five}
 use Rattle.ribbon.specs.declared.Built.{Built}
 use Rattle.ribbon.specs.declared.Built.the-variants.{Mesh, NoMesh}
 use Rattle.ribbon.specs.declared.Planned.{Planned}

@@ -3,7 +3,7 @@ use Prim.Native.Nat.{ℕ, _+_, _*_, _≤_, _<_}
 use mathlib.Core.List.{List}
 use mathlib.Core.Bool.{Bool, true, _&&_, _||_}
 use mathlib.Core.Path.{_≡_}
-use lib.Dec.{leb, eqb}
+use lib.Dec.{eqb}
 use Rattle.numbers.specs.Bytes.{u8At, u32At}
 use Rattle.stream.specs.declared.requests.Lengths.{Lengths}
 use Rattle.stream.specs.declared.requests.Request.{Request}

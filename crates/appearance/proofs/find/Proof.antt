@@ -13,7 +13,9 @@ abbrev μ-loop : tie.MeasureT-loop
 μ-loop keys links n key h p₀ p = p
 
 loop-holds : tie.Need-loop-holds Inv-loop μ-loop
-loop-holds c = walked-start _ _ _ _ (c .before .before .pre) (subst (λ (k : ℕ). k < 16384) (c .before .slot-of .ensures .0) (c .before .slot-of .ensures .1)) _ _ (c .before .slot-of .ensures .0) refl
+loop-holds c =
+    let q = c .before .slot-of .ensures in
+    walked-start _ _ _ _ (c .before .before .pre) (subst (λ (k : ℕ). k < 16384) (q .0) (q .1)) _ _ (q .0) refl
 
 returns : tie.Need-returns Inv-loop μ-loop
 returns c = (walked-here _ _ _ _ (c .before .before .before .before .before .before .pre) _ (c .before .before .before .loop .inv) (c .before .before .loop-test .taken) (c .if1 .taken), c .before .before .before .loop .inv .below)

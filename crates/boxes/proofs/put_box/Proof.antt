@@ -19,15 +19,19 @@ unfolding over
 loop-holds c = (omega arith, c .get-vec .ensures, c .get-vec .ensures)
 
 loop-again : tie.Need-loop-again Inv-loop μ-loop
-loop-again c = (omega arith, over-more _ _ (c .before .before .before .before .loop .i) (c .before .before .before .before .loop .inv .1) (c .before .before .get-vec2 .ensures) (c .before .least .ensures), over-more _ _ (c .before .before .before .before .loop .i) (c .before .before .before .before .loop .inv .2) (c .before .before .get-vec2 .ensures) (c .greatest .ensures))
+loop-again c =
+    let loop = c .before .before .before .before .loop in
+    (omega arith, over-more _ _ (loop .i) (loop .inv .1) (c .before .before .get-vec2 .ensures) (c .before .least .ensures), over-more _ _ (loop .i) (loop .inv .2) (c .before .before .get-vec2 .ensures) (c .greatest .ensures))
 
 put-vec-requires-2 : tie.Need-put-vec-requires-2 Inv-loop μ-loop
 put-vec-requires-2 c κs = omega (arith, kept _ _ _ (c .before .before .before .put-vec .ensures))
 
 returns : tie.Need-returns Inv-loop μ-loop
 unfolding boxOf
-returns c = let e : c .before .before .before .before .before .before .before .before .before .before .before .before .before .args .n - 1 ≡ c .before .before .before .before .before .before .before .before .before .loop .i = omega arith in
-    rw (e, ← c .before .before .before .before .before .before .before .before .before .loop .inv .1, ← c .before .before .before .before .before .before .before .before .before .loop .inv .2) (next _ _ _ _ _ _ (c .before .before .put-vec2 .ensures) (c .before .before .before .before .before .before .put-vec .ensures) refl)
+returns c =
+    let loop = c .before .before .before .before .before .before .before .before .before .loop in
+    let e : c .before .before .before .before .before .before .before .before .before .before .before .before .before .args .n - 1 ≡ loop .i = omega arith in
+    rw (e, ← loop .inv .1, ← loop .inv .2) (next _ _ _ _ _ _ (c .before .before .put-vec2 .ensures) (c .before .before .before .before .before .before .put-vec .ensures) refl)
 
 pub put-box-spec : {M : Type 1} → statement M
 put-box-spec =

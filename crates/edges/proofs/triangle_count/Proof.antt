@@ -8,14 +8,8 @@ use Rattle.edges.proofs.triangle_count.Tie as tie
 returns : tie.Need-returns
 returns c = sym (no-tube 8 8 0 (c .before .args .n) (c .if1 .taken) .2)
 
-mul-result : tie.Need-mul-result
-mul-result c = search needs
-
-sub-result : tie.Need-sub-result
-sub-result c = search needs
-
 returns-2 : tie.Need-returns-2
 returns-2 c = sym (ribbon-counts (c .before .args .n) (c .if1 .left) .2)
 
 pub triangle-count-spec : {M : Type 1} → statement M
-triangle-count-spec = tie.close (tie.spec returns mul-result sub-result returns-2)
+triangle-count-spec = tie.close (tie.spec returns (λ c. search needs) (λ c. search needs) returns-2)

@@ -8,14 +8,8 @@ use Rattle.edges.proofs.vertex_count.Tie as tie
 returns : tie.Need-returns
 returns c = sym (no-tube 8 8 0 (c .before .args .n) (c .if1 .taken) .1)
 
-mul-result : tie.Need-mul-result
-mul-result c = search needs
-
-sub-result : tie.Need-sub-result
-sub-result c = search needs
-
 returns-2 : tie.Need-returns-2
 returns-2 c = sym (ribbon-counts (c .before .args .n) (c .if1 .left) .1)
 
 pub vertex-count-spec : {M : Type 1} → statement M
-vertex-count-spec = tie.close (tie.spec returns mul-result sub-result returns-2)
+vertex-count-spec = tie.close (tie.spec returns (λ c. search needs) (λ c. search needs) returns-2)

@@ -20,7 +20,9 @@ returns-2 c = simp (← c .before .before .before .before .atom-at .ensures, ←
 
 returns-3 : tie.Need-returns-3
 unfolding badCoordinate
-returns-3 c = let f : ℕ → Bool = λ k. not (within (u64At (c .before .before .before .before .before .before .before .args .b .now) (atomAt (c .before .before .before .before .before .before .before .args .h) (c .before .before .before .before .before .before .before .args .a) + k))) in
+returns-3 c =
+    let args = c .before .before .before .before .before .before .before .args in
+    let f : ℕ → Bool = λ k. not (within (u64At (args .b .now) (atomAt (args .h) (args .a) + k))) in
     let x : f 9 ≡ false = cc in
     let y : f 17 ≡ false = cc in
     let z : c .is-outside3 .result ≡ f 25 = cc in

@@ -1,16 +1,12 @@
 use Rattle.job.specs.Check.{stray}
-use borrow.Author.Tests.{lt-ltb, le-ltb, eq-eqb, ne-eqb}
+use borrow.Author.Tests.{eq-eqb, ne-eqb}
 use Rattle.job.proofs.is_stray.Statement.{statement}
 use Rattle.job.proofs.is_stray.Tie as tie
-use Rattle.job.proofs.is_stray.Reads as reads
-use Rattle.job.proofs.is_stray.Lts as lts
 
--- src/lib.rt:134:9
 returns : tie.Need-returns
 unfolding stray
 returns c = simp (eq-eqb _ _ (c .if1 .taken))
 
--- src/lib.rt:130:1
 returns-2 : tie.Need-returns-2
 unfolding stray
 returns-2 c = simp (ne-eqb _ _ (c .if1 .left))

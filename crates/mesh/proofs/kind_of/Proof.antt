@@ -3,17 +3,14 @@ use Rattle.mesh.proofs.Laws.{kind-sheet}
 use Rattle.mesh.proofs.kind_of.Statement.{statement}
 use Rattle.mesh.proofs.kind_of.Tie as tie
 
--- src/lib.rt:25:9
 returns : tie.Need-returns
 unfolding kindOf
 returns c = rw (c .if1 .taken)
 
--- src/lib.rt:28:9
 returns-2 : tie.Need-returns-2
 unfolding kindOf
 returns-2 c = rw (c .if2 .taken)
 
--- src/lib.rt:21:1
 returns-3 : tie.Need-returns-3
 returns-3 c = kind-sheet _ (c .before .if1 .left) (c .if2 .left)
 

@@ -30,7 +30,9 @@ put-vec-requires : tie.Need-put-vec-requires Inv-loop μ-loop
 put-vec-requires c κs = omega (arith, kept _ _ _ (c .before .before .before .before .loop .inv .1), c .before .before .before .before .before .before .before .before .pre .2)
 
 loop-again : tie.Need-loop-again Inv-loop μ-loop
-loop-again c = (omega arith, turn (spotAt (placeOf (c .before .before .before .before .before .before .before .before .before .before .before .args .b .now) (c .before .before .before .before .before .before .before .before .before .before .before .args .h)) (c .before .before .before .before .before .before .before .before .before .before .before .args .atoms .now)) 3 (λ _. refl) _ _ _ (c .before .before .before .before .before .before .before .loop .i) (rw (c .before .before .before .spot .ensures) at (c .before .before .put-vec .ensures)) (c .before .before .before .before .before .before .before .loop .inv .1) (omega arith))
+loop-again c =
+    let args = c .before .before .before .before .before .before .before .before .before .before .before .args in
+    (omega arith, turn (spotAt (placeOf (args .b .now) (args .h)) (args .atoms .now)) 3 (λ _. refl) _ _ _ (c .before .before .before .before .before .before .before .loop .i) (rw (c .before .before .before .spot .ensures) at (c .before .before .put-vec .ensures)) (c .before .before .before .before .before .before .before .loop .inv .1) (omega arith))
 
 same-length : tie.Need-same-length Inv-loop μ-loop
 same-length c = kept _ _ _ (c .before .loop .inv .1)

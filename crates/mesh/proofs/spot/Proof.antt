@@ -5,18 +5,12 @@ use borrow.Author.Needs.{needs}
 use Rattle.mesh.proofs.spot.Statement.{statement}
 use Rattle.mesh.proofs.spot.Tie as tie
 
--- src/lib.rt:39:9
 returns : tie.Need-returns
 unfolding spotOf
 returns c = rw (c .if1 .taken)
 
--- src/lib.rt:45:5
-place-requires : tie.Need-place-requires
-place-requires c κs = search needs
-
--- src/lib.rt:34:1
 returns-2 : tie.Need-returns-2
 returns-2 c = c .place .ensures ∙ spot-some _ _ (c .before .if1 .left)
 
 pub spot-spec : {M : Type 1} → statement M
-spot-spec = tie.close (tie.spec returns place-requires returns-2)
+spot-spec = tie.close (tie.spec returns (λ c κs. search needs) returns-2)

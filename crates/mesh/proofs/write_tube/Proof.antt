@@ -14,19 +14,25 @@ mul-put-box : tie.Need-mul-put-box
 mul-put-box c = omega (arith, c .before .before .before .before .before .before .before .before .before .before .before .before .before .before .before .before .pre .1 .1 .2 .boxes, c .before .before .before .before .before .before .before .before .before .before .before .before .before .before .before .before .good)
 
 put-box-requires : tie.Need-put-box-requires
-put-box-requires c κs = (omega (arith, c .before .before .before .before .before .before .before .before .before .before .before .before .before .before .before .before .pre .1 .0 .0), simp length-take (omega (arith, c .before .before .before .before .load-course .kept .1 .1 .1 .1 .0, c .before .before .before .before .before .before .before .before .before .before .before .before .before .before .before .before .pre .1 .0 .3)), omega (arith, c .before .before .before .before .before .before .before .before .before .before .before .before .before .before .before .before .pre .1 .1 .2 .boxes))
+put-box-requires c κs =
+    let p = c .before .before .before .before .before .before .before .before .before .before .before .before .before .before .before .before .pre .1 in
+    (omega (arith, p .0 .0), simp length-take (omega (arith, c .before .before .before .before .load-course .kept .1 .1 .1 .1 .0, p .0 .3)), omega (arith, p .1 .2 .boxes))
 
 tube-vertices-requires : tie.Need-tube-vertices-requires
-tube-vertices-requires c κs = let R = c .before .before .before .before .before .before .before .before .before .before .before .before .before .before .before .before .before .before .before .before .before .before .before .before .pre .1 .1 .2 in (
-  record { two = c .before .before .before .before .before .before .before .before .before .before .before .before .before .before .before .before .before .before .before .before .before .before .before .before .pre .1 .0 .0; most = c .before .before .before .before .before .before .before .before .before .before .before .before .before .before .before .before .before .before .before .before .before .before .before .before .pre .1 .0 .1; flagged = omega (arith, c .before .before .before .before .before .before .before .before .before .before .before .before .before .before .before .before .before .before .before .before .before .before .before .before .pre .1 .0 .2); both = c .before .before .before .before .before .before .before .before .before .before .before .before .load-course .kept .1 .1 .1 .1 .0 ∙ c .before .before .before .before .before .before .before .before .before .before .before .before .before .before .before .before .before .before .before .before .before .before .before .before .pre .1 .0 .3; low = omega (arith, c .before .before .before .before .before .before .before .before .before .before .before .before .before .before .before .before .before .before .before .before .before .before .before .before .pre .0 .4, c .before .before .before .before .before .before .before .before .before .before .before .before .before .before .before .before .before .before .before .before .before .before .before .before .pre .1 .0 .1) },
-  record { pos = omega (arith, R .positions, c .before .before .before .before .before .before .before .before .before .before .before .before .before .before .before .before .before .before .before .before .before .before .before .before .pre .1 .0 .0); norm = omega (arith, R .normals, c .before .before .before .before .before .before .before .before .before .before .before .before .before .before .before .before .before .before .before .before .before .before .before .before .pre .1 .0 .0); tag = omega (arith, R .tags, c .before .before .before .before .before .before .before .before .before .before .before .before .before .before .before .before .before .before .before .before .before .before .before .before .pre .1 .0 .0) },
-)
+tube-vertices-requires c κs =
+    let pre = c .before .before .before .before .before .before .before .before .before .before .before .before .before .before .before .before .before .before .before .before .before .before .before .before .pre in
+    let R = pre .1 .1 .2 in (
+      record { two = pre .1 .0 .0; most = pre .1 .0 .1; flagged = omega (arith, pre .1 .0 .2); both = c .before .before .before .before .before .before .before .before .before .before .before .before .load-course .kept .1 .1 .1 .1 .0 ∙ pre .1 .0 .3; low = omega (arith, pre .0 .4, pre .1 .0 .1) },
+      record { pos = omega (arith, R .positions, pre .1 .0 .0); norm = omega (arith, R .normals, pre .1 .0 .0); tag = omega (arith, R .tags, pre .1 .0 .0) },
+    )
 
 mul-tube-triangles : tie.Need-mul-tube-triangles
 mul-tube-triangles c = omega (arith, c .before .before .before .before .before .before .before .before .before .before .before .before .before .before .before .before .before .before .before .before .before .before .before .before .before .before .before .before .before .before .before .before .before .before .pre .1 .1 .1, c .before .before .before .before .before .before .before .before .before .before .before .before .before .before .before .before .before .before .before .before .before .before .before .before .before .before .before .before .before .before .before .before .before .before .pre .1 .1 .0)
 
 tube-triangles-requires : tie.Need-tube-triangles-requires
-tube-triangles-requires c κs = (omega (arith, c .before .before .before .before .before .before .before .before .before .before .before .before .before .before .before .before .before .before .before .before .before .before .before .before .before .before .before .before .before .before .before .before .before .before .pre .1 .1 .2 .triangles), (c .before .before .before .before .before .before .before .before .before .before .before .before .before .before .before .before .before .before .before .before .before .before .before .before .before .before .before .before .before .before .before .before .before .before .pre .1 .0 .0, omega (arith, c .before .before .before .before .before .before .before .before .before .before .before .before .before .before .before .before .before .before .before .before .before .before .before .before .before .before .before .before .before .before .before .before .before .before .pre .1 .1 .0)))
+tube-triangles-requires c κs =
+    let p = c .before .before .before .before .before .before .before .before .before .before .before .before .before .before .before .before .before .before .before .before .before .before .before .before .before .before .before .before .before .before .before .before .before .before .pre .1 in
+    (omega (arith, p .1 .2 .triangles), (p .0 .0, omega (arith, p .1 .0)))
 
 mul-put-five : tie.Need-mul-put-five
 mul-put-five c = omega (arith, c .before .before .before .before .before .before .before .before .before .before .before .before .before .before .before .before .before .before .before .before .before .before .before .before .before .before .before .before .before .before .before .before .before .before .before .before .before .before .pre .1 .1 .2 .tubes, c .before .before .before .before .before .before .before .before .before .before .before .before .before .before .before .before .before .before .before .before .before .before .before .before .before .before .before .before .before .before .before .before .before .before .before .before .before .before .good)

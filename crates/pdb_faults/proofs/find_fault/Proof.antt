@@ -24,8 +24,10 @@ loop-holds : tie.Need-loop-holds Inv-loop μ-loop
 loop-holds c = (omega arith, omega arith, refl, c .before .pre .1, c .before .pre .2, all-known _ _ _ _ _ (c .before .pre .0), λ m. (refl, refl, refl))
 
 returns : tie.Need-returns Inv-loop μ-loop
-returns c = let e = stepped-done _ _ _ _ (c .before .before .step .ensures) (c .enum-told .given .1) in
-    (none-left _ _ _ _ _ (c .before .before .before .before .loop .inv .2) (c .before .before .before .before .loop .inv .3) (no-ahead _ e), λ m. (c .before .before .before .before .loop .inv .6 m .0, c .before .before .before .before .loop .inv .6 m .1))
+returns c =
+    let inv = c .before .before .before .before .loop .inv in
+    let e = stepped-done _ _ _ _ (c .before .before .step .ensures) (c .enum-told .given .1) in
+    (none-left _ _ _ _ _ (inv .2) (inv .3) (no-ahead _ e), λ m. (inv .6 m .0, inv .6 m .1))
 
 refresh-requires : tie.Need-refresh-requires Inv-loop μ-loop
 refresh-requires c κs = (c .before .before .before .before .before .before .before .before .loop .inv .0, c .before .before .before .before .before .before .before .before .loop .inv .5)
@@ -46,17 +48,21 @@ loop-less c = let o = stepped-got _ _ _ _ _ _ _ (c .before .before .before .befo
     omega (arith, o .more, o .within)
 
 loop-again : tie.Need-loop-again Inv-loop μ-loop
-loop-again c = let o = stepped-got _ _ _ _ _ _ _ (c .before .before .before .before .before .before .before .before .before .before .before .before .before .before .step .ensures) (c .before .before .before .before .before .before .before .before .before .before .before .before .next .given .1) in
+loop-again c =
+    let inv = c .before .before .before .before .before .before .before .before .before .before .before .before .before .before .before .before .loop .inv in
+    let o = stepped-got _ _ _ _ _ _ _ (c .before .before .before .before .before .before .before .before .before .before .before .before .before .before .step .ensures) (c .before .before .before .before .before .before .before .before .before .before .before .before .next .given .1) in
     let f = c .before .before .before .fault-of .ensures in
     let k = sym (c .before .before .is-clean .ensures) ∙ c .before .if1 .taken in
-    (o .within, omega (arith, o .more, c .before .before .before .before .before .before .before .before .before .before .before .before .before .before .before .before .loop .inv .1), fault-on _ _ _ _ _ _ _ (c .before .before .before .before .before .before .before .before .before .before .before .before .before .before .before .before .loop .inv .2) (o .is) f k, own-on _ _ _ _ _ (o .is) _ f k _ (c .before .before .before .before .before .before .before .before .before .before .before .before .before .before .before .before .loop .inv .3), ahead-on _ _ _ _ _ (o .is) _ f k _ _ (c .before .before .before .before .before .before .before .before .before .before .before .before .before .before .before .before .loop .inv .4) (c .count-segment .ensures .0) .1, c .before .before .before .before .before .before .before .refresh .ensures .0, λ m. let E = c .before .before .before .before .before .before .before .refresh .ensures .1 m in let I = c .before .before .before .before .before .before .before .before .before .before .before .before .before .before .before .before .loop .inv .6 m in (E .0 ∙ I .0, E .1 ∙ I .1, E .2 ∙ I .2))
+    (o .within, omega (arith, o .more, inv .1), fault-on _ _ _ _ _ _ _ (inv .2) (o .is) f k, own-on _ _ _ _ _ (o .is) _ f k _ (inv .3), ahead-on _ _ _ _ _ (o .is) _ f k _ _ (inv .4) (c .count-segment .ensures .0) .1, c .before .before .before .before .before .before .before .refresh .ensures .0, λ m. let E = c .before .before .before .before .before .before .before .refresh .ensures .1 m in let I = inv .6 m in (E .0 ∙ I .0, E .1 ∙ I .1, E .2 ∙ I .2))
 
 returns-2 : tie.Need-returns-2 Inv-loop μ-loop
 returns-2 c = let o = stepped-got _ _ _ _ _ _ _ (c .before .before .before .before .before .before .before .before .before .before .before .before .before .step .ensures) (c .before .before .before .before .before .before .before .before .before .before .before .next .given .1) in
     (fault-here _ _ _ _ _ _ _ (c .before .before .before .before .before .before .before .before .before .before .before .before .before .before .before .loop .inv .2) (o .is) (c .before .before .fault-of .ensures) (sym (c .before .is-clean .ensures) ∙ c .if1 .left), λ m. let E = c .before .before .before .before .before .before .refresh .ensures .1 m in let I = c .before .before .before .before .before .before .before .before .before .before .before .before .before .before .before .loop .inv .6 m in (E .0 ∙ I .0, E .1 ∙ I .1))
 
 returns-3 : tie.Need-returns-3 Inv-loop μ-loop
-returns-3 c = (none-left _ _ _ _ _ (c .before .loop .inv .2) (c .before .loop .inv .3) (sym (c .before .loop .inv .4) ∙ omega (arith, c .loop-test .left)), λ m. (c .before .loop .inv .6 m .0, c .before .loop .inv .6 m .1))
+returns-3 c =
+    let inv = c .before .loop .inv in
+    (none-left _ _ _ _ _ (inv .2) (inv .3) (sym (inv .4) ∙ omega (arith, c .loop-test .left)), λ m. (inv .6 m .0, inv .6 m .1))
 
 pub find-fault-spec : {M : Type 1} → statement M
 find-fault-spec =

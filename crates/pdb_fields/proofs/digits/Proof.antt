@@ -20,8 +20,9 @@ loop-holds c = (omega arith, omega arith, refl, refl, c .before .pre .2)
 
 mul-value : tie.Need-mul-value Inv-loop μ-loop
 mul-value c =
-    let k : c .before .before .before .before .loop .k ≤ 8 = omega arith in
-    omega (arith, small (c .before .before .before .before .loop .value) (c .before .before .before .before .loop .k) (c .before .before .before .before .loop .inv .4) k)
+    let loop = c .before .before .before .before .loop in
+    let k : loop .k ≤ 8 = omega arith in
+    omega (arith, small (loop .value) (loop .k) (loop .inv .4) k)
 
 sub-value : tie.Need-sub-value Inv-loop μ-loop
 sub-value c = digit-from _ (sym (c .before .is-digit .ensures) ∙ c .if1 .taken)
@@ -34,23 +35,29 @@ cast-value c =
 
 add-value : tie.Need-add-value Inv-loop μ-loop
 add-value c =
+    let loop = c .before .before .before .before .loop in
     let d = sym (c .before .is-digit .ensures) ∙ c .if1 .taken in
-    let b = getD (c .before .before .before .before .before .before .args .l .now) (c .before .before .before .before .loop .k) 0 in
-    let k : c .before .before .before .before .loop .k ≤ 8 = omega arith in
-    omega (arith, digit-from b d, digit-to b d, small (c .before .before .before .before .loop .value) (c .before .before .before .before .loop .k) (c .before .before .before .before .loop .inv .4) k)
+    let b = getD (c .before .before .before .before .before .before .args .l .now) (loop .k) 0 in
+    let k : loop .k ≤ 8 = omega arith in
+    omega (arith, digit-from b d, digit-to b d, small (loop .value) (loop .k) (loop .inv .4) k)
 
 loop-again : tie.Need-loop-again Inv-loop μ-loop
 loop-again c =
+    let loop = c .before .before .before .before .loop in
     let d = sym (c .before .is-digit .ensures) ∙ c .if1 .taken in
     let h = c .before .before .before .loop-test .taken in
-    let b = getD (c .before .before .before .before .before .before .args .l .now) (c .before .before .before .before .loop .k) 0 in
-    (omega arith, omega arith, run-turn isDigit _ _ _ (c .before .before .before .before .loop .inv .2) h d, c .before .before .before .before .loop .inv .3 ∙ decimal-more (c .before .before .before .before .before .before .args .l .now) (c .before .before .before .before .loop .k) (c .before .before .before .before .loop .value) h d, grown (c .before .before .before .before .loop .value) (b - 48) (c .before .before .before .before .loop .k) (c .before .before .before .before .loop .inv .4) (omega (arith, digit-to b d)))
+    let b = getD (c .before .before .before .before .before .before .args .l .now) (loop .k) 0 in
+    (omega arith, omega arith, run-turn isDigit _ _ _ (loop .inv .2) h d, loop .inv .3 ∙ decimal-more (c .before .before .before .before .before .before .args .l .now) (loop .k) (loop .value) h d, grown (loop .value) (b - 48) (loop .k) (loop .inv .4) (omega (arith, digit-to b d)))
 
 returns : tie.Need-returns Inv-loop μ-loop
-returns c = (digits-stop _ _ _ _ _ (c .before .before .before .before .loop .inv .2) (c .before .before .before .before .loop .inv .1) (c .before .before .before .before .loop .inv .3) (run-no isDigit _ _ (c .before .before .before .loop-test .taken) (sym (c .before .is-digit .ensures) ∙ c .if1 .left)), c .before .before .before .before .loop .inv .4)
+returns c =
+    let inv = c .before .before .before .before .loop .inv in
+    (digits-stop _ _ _ _ _ (inv .2) (inv .1) (inv .3) (run-no isDigit _ _ (c .before .before .before .loop-test .taken) (sym (c .before .is-digit .ensures) ∙ c .if1 .left)), inv .4)
 
 returns-2 : tie.Need-returns-2 Inv-loop μ-loop
-returns-2 c = (digits-stop _ _ _ _ _ (c .before .loop .inv .2) (c .before .loop .inv .1) (c .before .loop .inv .3) (run-over isDigit _ _ (c .loop-test .left)), c .before .loop .inv .4)
+returns-2 c =
+    let inv = c .before .loop .inv in
+    (digits-stop _ _ _ _ _ (inv .2) (inv .1) (inv .3) (run-over isDigit _ _ (c .loop-test .left)), inv .4)
 
 pub digits-spec : {M : Type 1} → statement M
 digits-spec =

@@ -4,9 +4,6 @@ use borrow.Author.Needs.{needs}
 use Rattle.pdb_fields.proofs.lead_at.Statement.{statement}
 use Rattle.pdb_fields.proofs.lead_at.Tie as tie
 
-shared-slice-read-if2 : tie.Need-shared-slice-read-if2
-shared-slice-read-if2 c = search needs
-
 returns : tie.Need-returns
 returns c = (lead-yes _ _ _ (c .before .before .if1 .taken) (c .if2 .taken), omega arith)
 
@@ -17,4 +14,4 @@ returns-3 : tie.Need-returns-3
 returns-3 c = (lead-over _ _ _ (c .if1 .left), omega arith)
 
 pub lead-at-spec : {M : Type 1} → statement M
-lead-at-spec = tie.close (tie.spec shared-slice-read-if2 returns returns-2 returns-3)
+lead-at-spec = tie.close (tie.spec (λ c. search needs) returns returns-2 returns-3)

@@ -27,7 +27,10 @@ loop-less : tie.Need-loop-less Inv-loop μ-loop
 loop-less c = omega (arith, c .before .before .before .before .before .before .before .before .line-at .ensures .onward, c .before .before .before .before .before .before .before .before .line-at .ensures .within)
 
 loop-again : tie.Need-loop-again Inv-loop μ-loop
-loop-again c = (omega (arith, c .before .before .before .before .before .before .before .before .before .before .loop .inv .0, c .before .before .before .before .before .before .before .before .line-at .ensures .onward), c .before .before .before .before .before .before .before .before .line-at .ensures .within, search-on _ _ _ _ _ _ _ _ (c .before .before .before .before .before .before .before .before .before .before .loop .inv .0) (c .before .before .before .before .before .before .before .before .before .before .loop .inv .2) (c .before .before .before .before .before .before .before .before .line-at .ensures) _ (c .before .before .before .before .before .before .kind-of .ensures) _ (c .before .before .before .before .before .is-over .ensures) (c .before .before .before .before .if1 .left) _ (c .before .before .before .saw-model .ensures) _ (c .before .is-wanted .ensures) (c .if2 .left))
+loop-again c =
+    let inv = c .before .before .before .before .before .before .before .before .before .before .loop .inv in
+    let p = c .before .before .before .before .before .before .before .before .line-at .ensures in
+    (omega (arith, inv .0, p .onward), p .within, search-on _ _ _ _ _ _ _ _ (inv .0) (inv .2) p _ (c .before .before .before .before .before .before .kind-of .ensures) _ (c .before .before .before .before .before .is-over .ensures) (c .before .before .before .before .if1 .left) _ (c .before .before .before .saw-model .ensures) _ (c .before .is-wanted .ensures) (c .if2 .left))
 
 returns-3 : tie.Need-returns-3 Inv-loop μ-loop
 returns-3 c = search-over _ _ _ _ _ 0 0 _ (c .before .loop .inv .0) (c .before .loop .inv .2) (c .loop-test .left)

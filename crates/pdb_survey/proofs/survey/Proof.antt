@@ -29,8 +29,10 @@ add-ahead c = let o = stepped-got _ _ _ _ _ _ _ (c .before .before .before .befo
     omega (arith, o .more, o .within, c .before .before .before .before .before .before .before .loop .inv .slow-ahead, c .count-segment .ensures .1)
 
 note-requires : tie.Need-note-requires Inv-loop μ-loop
-note-requires c κs = let o = stepped-got _ _ _ _ _ _ _ (c .before .before .before .before .before .before .before .before .before .before .step .ensures) (c .before .before .before .before .before .before .before .before .n .given .1) in
-    (c .before .before .before .before .before .before .before .before .before .before .before .loop .inv .noted .known .index, c .before .before .before .before .before .before .before .before .before .before .before .loop .inv .few-chains, omega (arith, o .more, o .within, c .before .before .before .before .before .before .before .before .before .before .before .loop .inv .slow-atoms))
+note-requires c κs =
+    let inv = c .before .before .before .before .before .before .before .before .before .before .before .loop .inv in
+    let o = stepped-got _ _ _ _ _ _ _ (c .before .before .before .before .before .before .before .before .before .before .step .ensures) (c .before .before .before .before .before .before .before .before .n .given .1) in
+    (inv .noted .known .index, inv .few-chains, omega (arith, o .more, o .within, inv .slow-atoms))
 
 add-line : tie.Need-add-line Inv-loop μ-loop
 add-line c = let o = stepped-got _ _ _ _ _ _ _ (c .before .before .before .before .before .before .before .before .before .before .before .step .ensures) (c .before .before .before .before .before .before .before .before .before .n .given .1) in
@@ -41,9 +43,11 @@ loop-less c = let o = stepped-got _ _ _ _ _ _ _ (c .before .before .before .befo
     omega (arith, o .more, o .within)
 
 loop-again : tie.Need-loop-again Inv-loop μ-loop
-loop-again c = let o = stepped-got _ _ _ _ _ _ _ (c .before .before .before .before .before .before .before .before .before .before .before .step .ensures) (c .before .before .before .before .before .before .before .before .before .n .given .1) in
-    surveying-more _ _ _ _ _ _ _ _ _ _ _ (c .before .before .before .before .before .before .before .before .before .before .before .before .loop .inv) _ _ _ o _ _ _ _ _ _ _ (c .note .ensures .0 _ (c .before .before .before .before .before .before .before .before .before .before .before .before .loop .inv .noted))
-    (c .before .before .before .before .before .before .first-of .ensures ∙ ap (firstOf (c .before .before .before .before .before .before .before .before .before .before .before .before .loop .fault)) (c .before .before .before .before .before .before .before .own-fault .ensures)) (c .before .before .before .before .before .count-segment .ensures .0) (c .before .before .before .before .before .count-segment .ensures .1) (c .note .ensures .1) (c .note .ensures .2)
+loop-again c =
+    let loop = c .before .before .before .before .before .before .before .before .before .before .before .before .loop in
+    let o = stepped-got _ _ _ _ _ _ _ (c .before .before .before .before .before .before .before .before .before .before .before .step .ensures) (c .before .before .before .before .before .before .before .before .before .n .given .1) in
+    surveying-more _ _ _ _ _ _ _ _ _ _ _ (loop .inv) _ _ _ o _ _ _ _ _ _ _ (c .note .ensures .0 _ (loop .inv .noted))
+    (c .before .before .before .before .before .before .first-of .ensures ∙ ap (firstOf (loop .fault)) (c .before .before .before .before .before .before .before .own-fault .ensures)) (c .before .before .before .before .before .count-segment .ensures .0) (c .before .before .before .before .before .count-segment .ensures .1) (c .note .ensures .1) (c .note .ensures .2)
 
 pub survey-spec : {M : Type 1} → statement M
 survey-spec =

@@ -30,8 +30,10 @@ loop-less c = let o = stepped-got _ _ _ _ _ _ _ (c .before .before .before .befo
     omega (arith, o .more, o .within)
 
 loop-again : tie.Need-loop-again Inv-loop μ-loop
-loop-again c = let o = stepped-got _ _ _ _ _ _ _ (c .before .before .before .before .before .step .ensures) (c .before .before .before .next .given .1) in
-    noting-more _ _ _ _ _ _ _ (c .before .before .before .before .before .before .loop .inv) _ _ _ o _ (c .note-atom .ensures (c .before .before .before .before .before .before .loop .inv .done) (c .before .before .before .before .before .before .loop .inv .wanted))
+loop-again c =
+    let inv = c .before .before .before .before .before .before .loop .inv in
+    let o = stepped-got _ _ _ _ _ _ _ (c .before .before .before .before .before .step .ensures) (c .before .before .before .next .given .1) in
+    noting-more _ _ _ _ _ _ _ inv _ _ _ o _ (c .note-atom .ensures (inv .done) (inv .wanted))
 
 pub note-atoms-spec : {M : Type 1} → statement M
 note-atoms-spec =

@@ -36,7 +36,9 @@ slice-aggregate-serve-tube-2 : tie.Need-slice-aggregate-serve-tube-2
 slice-aggregate-serve-tube-2 c = sym (length-take-le _ _ (c .before .before .before .before .before .before .before .before .before .before .before .before .before .before .before .before .before .pre .1 .triangles))
 
 serve-tube-requires : tie.Need-serve-tube-requires
-serve-tube-requires c κs = (c .before .before .before .before .before .before .before .before .before .before .before .before .before .before .before .before .before .before .pre .0, omega (arith, c .before .before .before .before .before .before .before .before .before .before .before .before .before .before .before .before .before .before .pre .2 (c .before .before .before .before .before .if1 .left) (c .before .before .before .if2 .left), length-take-le _ (c .before .before .before .before .before .before .before .before .before .before .before .before .before .before .before .before .before .before .args .tubes .now) (c .before .before .before .before .before .before .before .before .before .before .before .before .before .before .before .before .before .before .pre .1 .tubes), length-take-le _ (c .before .before .before .before .before .before .before .before .before .before .before .before .before .before .before .before .before .before .args .triangles .now) (c .before .before .before .before .before .before .before .before .before .before .before .before .before .before .before .before .before .before .pre .1 .triangles)))
+serve-tube-requires c κs =
+    let pre = c .before .before .before .before .before .before .before .before .before .before .before .before .before .before .before .before .before .before .pre in
+    (pre .0, omega (arith, pre .2 (c .before .before .before .before .before .if1 .left) (c .before .before .before .if2 .left), length-take-le _ (c .before .before .before .before .before .before .before .before .before .before .before .before .before .before .before .before .before .before .args .tubes .now) (pre .1 .tubes), length-take-le _ (c .before .before .before .before .before .before .before .before .before .before .before .before .before .before .before .before .before .before .args .triangles .now) (pre .1 .triangles)))
 
 same-length-15 : tie.Need-same-length-15
 same-length-15 c = c .before .out3 .given

@@ -6,7 +6,9 @@ use Rattle.ribbon_c.proofs.ribbon_build.Statement.{statement}
 use Rattle.ribbon_c.proofs.ribbon_build.Tie as tie
 
 returns : tie.Need-returns
-returns c = (c .built-words .ensures ∙ ap (λ (a : Built). wordsOf (builtNumbers a)) (c .before .before .before .before .before .before .before .before .before .before .before .before .before .before .before .before .before .build .ensures .0), c .before .before .before .before .before .before .before .before .before .before .before .before .before .before .before .before .before .build .ensures .1, c .before .before .before .before .before .before .before .before .before .before .before .before .before .before .before .before .before .build .ensures .2, c .before .before .before .before .before .before .before .before .before .before .before .before .before .before .before .before .before .build .ensures .3)
+returns c =
+    let p = c .before .before .before .before .before .before .before .before .before .before .before .before .before .before .before .before .before .build .ensures in
+    (c .built-words .ensures ∙ ap (λ (a : Built). wordsOf (builtNumbers a)) (p .0), p .1, p .2, p .3)
 
 pub ribbon-build-spec : {M : Type 1} → statement M
 ribbon-build-spec =

@@ -11,16 +11,24 @@ returns : tie.Need-returns
 returns c = part-empty _ _ _ (sym (c .if1 .taken) ∙ ap length (c .before .tube .ensures))
 
 mul-start : tie.Need-mul-start
-mul-start c = omega (arith, listed (c .before .before .before .before .args .tubes .now) (c .before .before .before .before .args .triangles .now) (c .before .before .before .before .args .k) (λ z. c .if1 .left (ap length (c .before .tube .ensures) ∙ z)))
+mul-start c =
+    let args = c .before .before .before .before .args in
+    omega (arith, listed (args .tubes .now) (args .triangles .now) (args .k) (λ z. c .if1 .left (ap length (c .before .tube .ensures) ∙ z)))
 
 add-start : tie.Need-add-start
-add-start c = omega (arith, listed (c .before .before .before .before .args .tubes .now) (c .before .before .before .before .args .triangles .now) (c .before .before .before .before .args .k) (λ z. c .if1 .left (ap length (c .before .tube .ensures) ∙ z)))
+add-start c =
+    let args = c .before .before .before .before .args in
+    omega (arith, listed (args .tubes .now) (args .triangles .now) (args .k) (λ z. c .if1 .left (ap length (c .before .tube .ensures) ∙ z)))
 
 mul-start-2 : tie.Need-mul-start-2
-mul-start-2 c = omega (arith, listed (c .before .before .before .before .args .tubes .now) (c .before .before .before .before .args .triangles .now) (c .before .before .before .before .args .k) (λ z. c .if1 .left (ap length (c .before .tube .ensures) ∙ z)))
+mul-start-2 c =
+    let args = c .before .before .before .before .args in
+    omega (arith, listed (args .tubes .now) (args .triangles .now) (args .k) (λ z. c .if1 .left (ap length (c .before .tube .ensures) ∙ z)))
 
 shared-slice-read-start : tie.Need-shared-slice-read-start
-shared-slice-read-start c = listed (c .before .before .before .before .before .args .tubes .now) (c .before .before .before .before .before .args .triangles .now) (c .before .before .before .before .before .args .k) (λ z. c .before .if1 .left (ap length (c .before .before .tube .ensures) ∙ z))
+shared-slice-read-start c =
+    let args = c .before .before .before .before .before .args in
+    listed (args .tubes .now) (args .triangles .now) (args .k) (λ z. c .before .if1 .left (ap length (c .before .before .tube .ensures) ∙ z))
 
 cast-start : tie.Need-cast-start
 cast-start c = omega (arith, c .shared-slice-known3 .given (5 * (c .before .before .before .before .before .args .k) + 4))
@@ -29,7 +37,9 @@ mul-start-3 : tie.Need-mul-start-3
 mul-start-3 c = omega (arith, c .shared-slice-known3 .given (5 * (c .before .before .before .before .before .args .k) + 4))
 
 returns-2 : tie.Need-returns-2
-returns-2 c = part-full (c .before .before .before .before .before .args .tubes .now) (c .before .before .before .before .before .args .triangles .now) (c .before .before .before .before .before .args .k) _ (ap length (c .before .before .tube .ensures)) (c .before .if1 .left)
+returns-2 c =
+    let args = c .before .before .before .before .before .args in
+    part-full (args .tubes .now) (args .triangles .now) (args .k) _ (ap length (c .before .before .tube .ensures)) (c .before .if1 .left)
 
 pub ribbon-tube-spec : {M : Type 1} → statement M
 ribbon-tube-spec =

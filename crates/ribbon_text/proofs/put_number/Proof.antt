@@ -8,10 +8,14 @@ use Rattle.ribbon_text.proofs.put_number.Statement.{statement}
 use Rattle.ribbon_text.proofs.put_number.Tie as tie
 
 put-text-requires : tie.Need-put-text-requires
-put-text-requires c κs = let e = c .before .before .decimal .ensures .1 .1 ∙ decimal-digits (c .before .before .before .before .before .args .n) (c .before .before .decimal .result) (omega arith) (c .before .before .decimal .ensures .1 .0) in omega (arith, ap length e, decimal-short (c .before .before .before .before .before .args .n))
+put-text-requires c κs =
+    let p = c .before .before .decimal in
+    let e = p .ensures .1 .1 ∙ decimal-digits (c .before .before .before .before .before .args .n) (p .result) (omega arith) (p .ensures .1 .0) in omega (arith, ap length e, decimal-short (c .before .before .before .before .before .args .n))
 
 returns : tie.Need-returns
-returns c = let e = c .before .before .before .before .before .decimal .ensures .1 .1 ∙ decimal-digits (c .before .before .before .before .before .before .before .before .args .n) (c .before .before .before .before .before .decimal .result) (omega arith) (c .before .before .before .before .before .decimal .ensures .1 .0) in let w = rw e at (c .before .before .put-text .ensures) in (w, omega (arith, w .1, decimal-short (c .before .before .before .before .before .before .before .before .args .n)))
+returns c =
+    let p = c .before .before .before .before .before .decimal in
+    let e = p .ensures .1 .1 ∙ decimal-digits (c .before .before .before .before .before .before .before .before .args .n) (p .result) (omega arith) (p .ensures .1 .0) in let w = rw e at (c .before .before .put-text .ensures) in (w, omega (arith, w .1, decimal-short (c .before .before .before .before .before .before .before .before .args .n)))
 
 pub put-number-spec : {M : Type 1} → statement M
 put-number-spec =

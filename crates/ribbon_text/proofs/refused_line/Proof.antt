@@ -9,7 +9,11 @@ use Rattle.ribbon_text.proofs.refused_line.Tie as tie
 
 returns : tie.Need-returns
 unfolding refusedLine
-returns c = (then _ _ _ _ (then _ _ _ _ (rw (c .before .before .before .before .before .before .before .before .before .before .before .before .before .before .refusal-numbers .ensures) at (c .before .before .before .before .before .before .before .before .before .before .before .put-field .ensures .0)) (c .before .before .before .before .before .before .before .put-carried .ensures .0)) (c .before .before .put-text .ensures), counts _ _ (omega (arith, c .before .before .put-text .ensures .1, kept _ _ _ (c .before .before .put-text .ensures .0), c .before .before .before .before .before .before .before .before .before .before .before .before .before .before .before .before .pre, kept _ _ _ (c .before .before .before .before .before .before .before .before .before .before .before .put-field .ensures .0 .0), c .before .before .before .before .before .before .before .before .before .before .before .put-field .ensures .1, kept _ _ _ (c .before .before .before .before .before .before .before .put-carried .ensures .0 .0), c .before .before .before .before .before .before .before .put-carried .ensures .1)))
+returns c =
+    let p = c .before .before .before .before .before .before .before .before .before .before .before .put-field .ensures in
+    let q = c .before .before .before .before .before .before .before .put-carried .ensures in
+    let r = c .before .before .put-text .ensures in
+    (then _ _ _ _ (then _ _ _ _ (rw (c .before .before .before .before .before .before .before .before .before .before .before .before .before .before .refusal-numbers .ensures) at (p .0)) (q .0)) r, counts _ _ (omega (arith, r .1, kept _ _ _ (r .0), c .before .before .before .before .before .before .before .before .before .before .before .before .before .before .before .before .pre, kept _ _ _ (p .0 .0), p .1, kept _ _ _ (q .0 .0), q .1)))
 
 pub refused-line-spec : {M : Type 1} → statement M
 refused-line-spec =

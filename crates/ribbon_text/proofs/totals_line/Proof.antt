@@ -9,7 +9,12 @@ use Rattle.ribbon_text.proofs.totals_line.Tie as tie
 
 returns : tie.Need-returns
 unfolding totalsLine
-returns c = (then _ _ _ _ (then _ _ _ _ (then _ _ _ _ (c .before .before .before .before .before .before .before .before .before .before .before .before .before .before .before .before .before .put-field .ensures .0) (c .before .before .before .before .before .before .before .before .before .before .before .before .put-field2 .ensures .0)) (c .before .before .before .before .before .before .before .put-field3 .ensures .0)) (c .before .before .put-text .ensures), counts _ _ (omega (arith, c .before .before .put-text .ensures .1, kept _ _ _ (c .before .before .put-text .ensures .0), c .before .before .before .before .before .before .before .before .before .before .before .before .before .before .before .before .before .before .before .before .before .pre, kept _ _ _ (c .before .before .before .before .before .before .before .before .before .before .before .before .before .before .before .before .before .put-field .ensures .0 .0), c .before .before .before .before .before .before .before .before .before .before .before .before .before .before .before .before .before .put-field .ensures .1, kept _ _ _ (c .before .before .before .before .before .before .before .before .before .before .before .before .put-field2 .ensures .0 .0), c .before .before .before .before .before .before .before .before .before .before .before .before .put-field2 .ensures .1, kept _ _ _ (c .before .before .before .before .before .before .before .put-field3 .ensures .0 .0), c .before .before .before .before .before .before .before .put-field3 .ensures .1)))
+returns c =
+    let p = c .before .before .before .before .before .before .before .before .before .before .before .before .before .before .before .before .before .put-field .ensures in
+    let q = c .before .before .before .before .before .before .before .before .before .before .before .before .put-field2 .ensures in
+    let r = c .before .before .before .before .before .before .before .put-field3 .ensures in
+    let s = c .before .before .put-text .ensures in
+    (then _ _ _ _ (then _ _ _ _ (then _ _ _ _ (p .0) (q .0)) (r .0)) s, counts _ _ (omega (arith, s .1, kept _ _ _ (s .0), c .before .before .before .before .before .before .before .before .before .before .before .before .before .before .before .before .before .before .before .before .before .pre, kept _ _ _ (p .0 .0), p .1, kept _ _ _ (q .0 .0), q .1, kept _ _ _ (r .0 .0), r .1)))
 
 pub totals-line-spec : {M : Type 1} → statement M
 totals-line-spec =

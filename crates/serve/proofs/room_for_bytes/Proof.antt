@@ -3,8 +3,6 @@ use mathlib.Core.Path.{sym}
 use lib.ListN.{length-replicate}
 use Rattle.serve.proofs.room_for_bytes.Statement.{statement}
 use Rattle.serve.proofs.room_for_bytes.Tie as tie
-use Rattle.serve.proofs.room_for_bytes.Reads as reads
-use Rattle.serve.proofs.room_for_bytes.Lts as lts
 
 returns : tie.Need-returns
 returns c = sym (length-replicate {A = ℕ} 1048576 0)

@@ -6,25 +6,13 @@ use borrow.Author.Needs.{needs}
 use Rattle.tables.proofs.fill.Statement.{statement}
 use Rattle.tables.proofs.fill.Tie as tie
 
--- src/lib.rt:153:13
-cast-t9 : tie.Need-cast-t9
-cast-t9 c = search needs
-
--- src/lib.rt:157:13
-cast-t9-2 : tie.Need-cast-t9-2
-cast-t9-2 c = search needs
-
--- src/lib.rt:159:5
 fill-part-requires : tie.Need-fill-part-requires
-fill-part-requires c κs = ((c .before .before .before .before .before .pre .0 .0, c .before .before .before .before .before .pre .0 .1, omega arith, held-all _ _), λ r l. rw add-zero (c .before .before .before .before .before .pre .1 r (omega arith)))
+fill-part-requires c κs =
+    let pre = c .before .before .before .before .before .pre in
+    ((pre .0 .0, pre .0 .1, omega arith, held-all _ _), λ r l. rw add-zero (pre .1 r (omega arith)))
 
--- src/lib.rt:146:1
-same-length : tie.Need-same-length
-same-length c = search needs
-
--- src/lib.rt:146:1
 returns : tie.Need-returns
 returns c = fill-all _ _ _ _ _ (c .before .before .fill-part .ensures)
 
 pub fill-spec : {M : Type 1} → statement M
-fill-spec = tie.close (tie.spec cast-t9 cast-t9-2 fill-part-requires same-length returns)
+fill-spec = tie.close (tie.spec (λ c. search needs) (λ c. search needs) fill-part-requires (λ c. search needs) returns)

@@ -19,18 +19,22 @@ abbrev μ-loop : tie.MeasureT-loop
 μ-loop b h which w t₀ base n first end a₀ t a = n - a
 
 loop-holds : tie.Need-loop-holds Inv-loop μ-loop
-loop-holds c = (c .before .before .pre .0 .3 .from, fill-start _ _ _ _ (λ r l. c .before .before .pre .1 r l ∙ sym (found-before _ _ _ _ _ (c .before .before .pre .0 .3))))
+loop-holds c =
+    let pre = c .before .before .pre in
+    (pre .0 .3 .from, fill-start _ _ _ _ (λ r l. pre .1 r l ∙ sym (found-before _ _ _ _ _ (pre .0 .3))))
 
 loop-again : tie.Need-loop-again Inv-loop μ-loop
-loop-again c = ⊎-elim
-    (λ x. (omega arith, rw (x .7) (turn-hit _ _ _ _ _ _ _ _ _ (c .before .before .before .loop .inv .1) _ (omega (arith, x .2 .taken, x .3 .taken, c .before .before .before .before .before .before .pre .0 .1, c .before .before .before .before .before .before .pre .0 .2)) (x .1 .ensures) (x .2 .taken) (omega (arith, x .2 .taken, x .3 .taken)) (sym (x .5 .ensures) ∙ not-true _ (x .6 .taken)) (sym (c .before .is-wanted .ensures) ∙ x .0 .taken))))
+loop-again c =
+    let p = c .before .before .before .loop .inv .1 in
+    ⊎-elim
+    (λ x. (omega arith, rw (x .7) (turn-hit _ _ _ _ _ _ _ _ _ p _ (omega (arith, x .2 .taken, x .3 .taken, c .before .before .before .before .before .before .pre .0 .1, c .before .before .before .before .before .before .pre .0 .2)) (x .1 .ensures) (x .2 .taken) (omega (arith, x .2 .taken, x .3 .taken)) (sym (x .5 .ensures) ∙ not-true _ (x .6 .taken)) (sym (c .before .is-wanted .ensures) ∙ x .0 .taken))))
     (⊎-elim
-    (λ x. (omega arith, rw (x .7) (turn-kept _ _ _ _ _ _ _ _ _ (c .before .before .before .loop .inv .1) _ (x .1 .ensures) (x .2 .taken) (omega (arith, x .2 .taken, x .3 .taken)) (sym (x .5 .ensures) ∙ not-false _ (x .6 .left)))))
+    (λ x. (omega arith, rw (x .7) (turn-kept _ _ _ _ _ _ _ _ _ p _ (x .1 .ensures) (x .2 .taken) (omega (arith, x .2 .taken, x .3 .taken)) (sym (x .5 .ensures) ∙ not-false _ (x .6 .left)))))
     (⊎-elim
-    (λ x. (omega arith, rw (x .4) (turn-out _ _ _ _ _ _ _ _ _ (c .before .before .before .loop .inv .1) (λ i l e. omega (arith, x .3 .left, x .1 .ensures)))))
+    (λ x. (omega arith, rw (x .4) (turn-out _ _ _ _ _ _ _ _ _ p (λ i l e. omega (arith, x .3 .left, x .1 .ensures)))))
     (⊎-elim
-    (λ x. (omega arith, rw (x .3) (turn-out _ _ _ _ _ _ _ _ _ (c .before .before .before .loop .inv .1) (λ i l e. omega (arith, x .2 .left, x .1 .ensures)))))
-    (λ x. (omega arith, rw (x .1) (turn-miss _ _ _ _ _ _ _ _ _ (c .before .before .before .loop .inv .1) (sym (c .before .is-wanted .ensures) ∙ x .0 .left)))))))
+    (λ x. (omega arith, rw (x .3) (turn-out _ _ _ _ _ _ _ _ _ p (λ i l e. omega (arith, x .2 .left, x .1 .ensures)))))
+    (λ x. (omega arith, rw (x .1) (turn-miss _ _ _ _ _ _ _ _ _ p (sym (c .before .is-wanted .ensures) ∙ x .0 .left)))))))
     (c .if1 .came)
 
 returns : tie.Need-returns Inv-loop μ-loop

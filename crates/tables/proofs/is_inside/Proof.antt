@@ -1,15 +1,12 @@
-use Prim.Native.Nat.{_-_}
 use borrow.Author.Tests.{le-leb, lt-leb}
 use Rattle.tables.specs.Job.{inside}
 use Rattle.tables.proofs.is_inside.Statement.{statement}
 use Rattle.tables.proofs.is_inside.Tie as tie
 
--- src/lib.rt:31:9
 returns : tie.Need-returns
 unfolding inside
 returns c = simp (lt-leb _ _ (c .if1 .taken))
 
--- src/lib.rt:27:1
 returns-2 : tie.Need-returns-2
 unfolding inside
 returns-2 c = simp (le-leb _ _ (c .before .if1 .left))

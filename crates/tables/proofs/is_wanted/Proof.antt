@@ -1,4 +1,3 @@
-use Prim.Native.Nat.{_-_}
 use borrow.Author.Needs.{needs}
 use Rattle.tables.specs.Job.{wants}
 use Rattle.tables.proofs.is_wanted.Statement.{statement}

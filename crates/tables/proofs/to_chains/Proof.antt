@@ -30,7 +30,10 @@ cast-a : tie.Need-cast-a Inv-loop μ-loop
 cast-a c = omega (arith, c .slice-known2 .given (c .before .before .loop .i))
 
 chain-requires : tie.Need-chain-requires Inv-loop μ-loop
-chain-requires c κs = (c .before .before .before .before .before .before .before .pre .0 .0, omega (arith, grow-at _ _ _ _ (c .before .before .before .loop .inv .1), c .before .before .before .before .before .before .before .pre .1 (c .before .before .before .loop .i) (omega arith), last-le (gives (jobOf (c .before .before .before .before .before .before .before .args .b .now) (c .before .before .before .before .before .before .before .args .h)) Chain (c .before .before .before .loop .i)) (c .before .before .before .before .before .before .before .args .h .atoms)))
+chain-requires c κs =
+    let args = c .before .before .before .before .before .before .before .args in
+    let loop = c .before .before .before .loop in
+    (c .before .before .before .before .before .before .before .pre .0 .0, omega (arith, grow-at _ _ _ _ (loop .inv .1), c .before .before .before .before .before .before .before .pre .1 (loop .i) (omega arith), last-le (gives (jobOf (args .b .now) (args .h)) Chain (loop .i)) (args .h .atoms)))
 
 mul-t : tie.Need-mul-t Inv-loop μ-loop
 mul-t c = omega (arith, c .before .before .before .before .loop .inv .1 .size, c .before .before .before .before .before .before .before .before .good .1 .1 .0 .1)
@@ -39,10 +42,13 @@ slice-write-t : tie.Need-slice-write-t Inv-loop μ-loop
 slice-write-t c = omega (arith, c .before .before .before .before .loop .inv .1 .size)
 
 loop-again : tie.Need-loop-again Inv-loop μ-loop
-loop-again c = let q = grow-at _ _ _ _ (c .before .before .before .loop .inv .1) ∙ c .before .before .before .before .before .before .before .pre .1 (c .before .before .before .loop .i) (omega arith) in
+loop-again c =
+    let args = c .before .before .before .before .before .before .before .args in
+    let loop = c .before .before .before .loop in
+    let q = grow-at _ _ _ _ (loop .inv .1) ∙ c .before .before .before .before .before .before .before .pre .1 (loop .i) (omega arith) in
     ⊎-elim
-    (λ x. (omega arith, rw (x .2) (grow-set _ _ _ _ (c .before .before .before .loop .inv .1) _ (omega arith) (ap (λ (k : ℕ). k + 1) (x .1 .ensures .0) ∙ code-some (jobOf (c .before .before .before .before .before .before .before .args .b .now) (c .before .before .before .before .before .before .before .args .h)) _ _ q (x .0 .taken)))))
-    (λ x. (omega arith, rw (x .1) (grow-same _ _ _ _ (c .before .before .before .loop .inv .1) (code-none (jobOf (c .before .before .before .before .before .before .before .args .b .now) (c .before .before .before .before .before .before .before .args .h)) _ _ q (x .0 .left)))))
+    (λ x. (omega arith, rw (x .2) (grow-set _ _ _ _ (loop .inv .1) _ (omega arith) (ap (λ (k : ℕ). k + 1) (x .1 .ensures .0) ∙ code-some (jobOf (args .b .now) (args .h)) _ _ q (x .0 .taken)))))
+    (λ x. (omega arith, rw (x .1) (grow-same _ _ _ _ (loop .inv .1) (code-none (jobOf (args .b .now) (args .h)) _ _ q (x .0 .left)))))
     (c .if1 .came)
 
 same-length : tie.Need-same-length Inv-loop μ-loop

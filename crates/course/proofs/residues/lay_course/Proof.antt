@@ -9,16 +9,22 @@ use Rattle.course.proofs.residues.lay_course.Statement.{statement}
 use Rattle.course.proofs.residues.lay_course.Tie as tie
 
 slice-aggregate-straighten : tie.Need-slice-aggregate-straighten
-slice-aggregate-straighten c = let g = guidesOf (c .before .before .before .before .before .before .before .args .kind) (take (3 * c .before .before .before .before .before .before .before .args .n) (now (c .before .before .before .before .before .before .before .args .course))) (oxygenAt (now (c .before .before .before .before .before .before .before .args .flags)) (drop (3 * c .before .before .before .before .before .before .before .args .n) (now (c .before .before .before .before .before .before .before .args .course)))) (c .before .before .before .before .before .before .before .args .n) in
-    sym (length-laid (now (c .before .before .before .before .before .before .before .args .flags)) (now (c .before .before .before .before .before .before .before .args .course)) (c .before .before .before .before .before .before .before .args .n) (c .before .before .before .before .before .before .before .pre .2) g (c .before .before .before .lay-guides .ensures))
+slice-aggregate-straighten c =
+    let args = c .before .before .before .before .before .before .before .args in
+    let g = guidesOf (args .kind) (take (3 * args .n) (now (args .course))) (oxygenAt (now (args .flags)) (drop (3 * args .n) (now (args .course)))) (args .n) in
+    sym (length-laid (now (args .flags)) (now (args .course)) (args .n) (c .before .before .before .before .before .before .before .pre .2) g (c .before .before .before .lay-guides .ensures))
 
 straighten-requires : tie.Need-straighten-requires
-straighten-requires c κs = let g = guidesOf (c .before .before .before .before .before .before .before .args .kind) (take (3 * c .before .before .before .before .before .before .before .args .n) (now (c .before .before .before .before .before .before .before .args .course))) (oxygenAt (now (c .before .before .before .before .before .before .before .args .flags)) (drop (3 * c .before .before .before .before .before .before .before .args .n) (now (c .before .before .before .before .before .before .before .args .course)))) (c .before .before .before .before .before .before .before .args .n) in
-    smoothable _ (c .before .before .before .before .before .before .before .args .n) (length-laid (now (c .before .before .before .before .before .before .before .args .flags)) (now (c .before .before .before .before .before .before .before .args .course)) (c .before .before .before .before .before .before .before .args .n) (c .before .before .before .before .before .before .before .pre .2) g (c .before .before .before .lay-guides .ensures)) (c .before .before .before .before .before .before .before .pre .0)
+straighten-requires c κs =
+    let args = c .before .before .before .before .before .before .before .args in
+    let g = guidesOf (args .kind) (take (3 * args .n) (now (args .course))) (oxygenAt (now (args .flags)) (drop (3 * args .n) (now (args .course)))) (args .n) in
+    smoothable _ (args .n) (length-laid (now (args .flags)) (now (args .course)) (args .n) (c .before .before .before .before .before .before .before .pre .2) g (c .before .before .before .lay-guides .ensures)) (c .before .before .before .before .before .before .before .pre .0)
 
 returns : tie.Need-returns
-returns c = let g = guidesOf (c .before .before .before .before .before .before .before .before .before .before .args .kind) (take (3 * c .before .before .before .before .before .before .before .before .before .before .args .n) (now (c .before .before .before .before .before .before .before .before .before .before .args .course))) (oxygenAt (now (c .before .before .before .before .before .before .before .before .before .before .args .flags)) (drop (3 * c .before .before .before .before .before .before .before .before .before .before .args .n) (now (c .before .before .before .before .before .before .before .before .before .before .args .course)))) (c .before .before .before .before .before .before .before .before .before .before .args .n) in
-    laid-points (now (c .before .before .before .before .before .before .before .before .before .before .args .flags)) (now (c .before .before .before .before .before .before .before .before .before .before .args .course)) (c .before .before .before .before .before .before .before .before .before .before .args .n) (c .before .before .before .before .before .before .before .before .before .before .pre .2) (c .before .before .before .before .before .before .before .before .before .before .args .kind) g (c .before .before .before .before .before .before .lay-guides .ensures) (c .before .before .straighten .ensures)
+returns c =
+    let args = c .before .before .before .before .before .before .before .before .before .before .args in
+    let g = guidesOf (args .kind) (take (3 * args .n) (now (args .course))) (oxygenAt (now (args .flags)) (drop (3 * args .n) (now (args .course)))) (args .n) in
+    laid-points (now (args .flags)) (now (args .course)) (args .n) (c .before .before .before .before .before .before .before .before .before .before .pre .2) (args .kind) g (c .before .before .before .before .before .before .lay-guides .ensures) (c .before .before .straighten .ensures)
 
 pub lay-course-spec : {M : Type 1} → statement M
 lay-course-spec =

@@ -5,7 +5,9 @@ use Rattle.course.proofs.residues.lay_guides.Statement.{statement}
 use Rattle.course.proofs.residues.lay_guides.Tie as tie
 
 returns : tie.Need-returns
-returns c = laid-guides (now (c .before .before .before .before .before .before .before .before .before .before .args .flags)) (now (c .before .before .before .before .before .before .before .before .before .before .args .course)) (c .before .before .before .before .before .before .before .before .before .before .args .n) (c .before .before .before .before .before .before .before .before .before .before .pre .2) (c .before .before .before .before .before .before .before .before .before .before .args .kind) (c .before .before .before .before .before .before .signed-guides .ensures) (c .before .before .settle .ensures)
+returns c =
+    let args = c .before .before .before .before .before .before .before .before .before .before .args in
+    laid-guides (now (args .flags)) (now (args .course)) (args .n) (c .before .before .before .before .before .before .before .before .before .before .pre .2) (args .kind) (c .before .before .before .before .before .before .signed-guides .ensures) (c .before .before .settle .ensures)
 
 pub lay-guides-spec : {M : Type 1} → statement M
 lay-guides-spec =

@@ -4,23 +4,13 @@ use borrow.Author.Needs.{needs}
 use Rattle.course.proofs.residues.oxygen_at.Statement.{statement}
 use Rattle.course.proofs.residues.oxygen_at.Tie as tie
 
-mul-if1 : tie.Need-mul-if1
-mul-if1 c = search needs
-
-shared-slice-read-if1 : tie.Need-shared-slice-read-if1
-shared-slice-read-if1 c = search needs
-
 returns : tie.Need-returns
 unfolding oxygenAt
 returns c = simp (eq-eqb _ _ (c .if1 .taken))
-
-get-vec-requires : tie.Need-get-vec-requires
-get-vec-requires c κs = search needs
 
 returns-2 : tie.Need-returns-2
 unfolding oxygenAt
 returns-2 c = simp (ne-eqb _ _ (c .before .if1 .left), c .get-vec .ensures)
 
 pub oxygen-at-spec : {M : Type 1} → statement M
-oxygen-at-spec =
-    tie.close (tie.spec mul-if1 shared-slice-read-if1 returns get-vec-requires returns-2)
+oxygen-at-spec = tie.close (tie.spec (λ c. search needs) (λ c. search needs) returns (λ c κs. search needs) returns-2)

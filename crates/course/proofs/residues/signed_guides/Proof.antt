@@ -27,17 +27,23 @@ raw-at-requires-2 : tie.Need-raw-at-requires-2 Inv-loop μ-loop
 raw-at-requires-2 c κs = (omega arith, omega arith, omega (arith, kept _ _ _ (c .before .before .before .put-vec .ensures), kept _ _ _ (c .before .before .before .before .before .before .loop .inv .2)))
 
 loop-again : tie.Need-loop-again Inv-loop μ-loop
-loop-again c = let p = signed-put _ _ _ (c .before .before .before .before .before .before .before .before .loop .i) (c .before .before .before .before .before .before .before .before .loop .inv .1) (c .before .before .before .before .before .before .before .before .loop .inv .2) (c .before .before .before .before .before .put-vec .ensures) in
-    (omega arith, signed-step _ (c .before .before .before .before .before .before .before .before .loop .i) (c .before .before .before .before .before .before .before .before .loop .inv .1) (c .before .raw-at2 .ensures ∙ raw-still _ _ _ _ (c .before .before .before .before .before .before .before .before .loop .i + 1) (c .before .before .before .before .before .before .before .before .loop .i + 1) (λ _. refl) p (omega arith)) (c .agreeing .ensures), p)
+loop-again c =
+    let loop = c .before .before .before .before .before .before .before .before .loop in
+    let p = signed-put _ _ _ (loop .i) (loop .inv .1) (loop .inv .2) (c .before .before .before .before .before .put-vec .ensures) in
+    (omega arith, signed-step _ (loop .i) (loop .inv .1) (c .before .raw-at2 .ensures ∙ raw-still _ _ _ _ (loop .i + 1) (loop .i + 1) (λ _. refl) p (omega arith)) (c .agreeing .ensures), p)
 
 put-vec-requires-2 : tie.Need-put-vec-requires-2 Inv-loop μ-loop
 put-vec-requires-2 c κs = omega (arith, kept _ _ _ (c .before .before .loop .inv .2))
 
 same-length : tie.Need-same-length Inv-loop μ-loop
-same-length c = kept _ _ _ (signed-put _ _ _ (c .before .before .before .before .before .loop .i) (c .before .before .before .before .before .loop .inv .1) (c .before .before .before .before .before .loop .inv .2) (c .before .before .put-vec2 .ensures))
+same-length c =
+    let loop = c .before .before .before .before .before .loop in
+    kept _ _ _ (signed-put _ _ _ (loop .i) (loop .inv .1) (loop .inv .2) (c .before .before .put-vec2 .ensures))
 
 returns : tie.Need-returns Inv-loop μ-loop
-returns c = signed-whole _ _ (c .before .before .before .before .before .loop .i + 1) _ (signed-put _ _ _ (c .before .before .before .before .before .loop .i) (c .before .before .before .before .before .loop .inv .1) (c .before .before .before .before .before .loop .inv .2) (c .before .before .put-vec2 .ensures)) (search needs) (omega arith)
+returns c =
+    let loop = c .before .before .before .before .before .loop in
+    signed-whole _ _ (loop .i + 1) _ (signed-put _ _ _ (loop .i) (loop .inv .1) (loop .inv .2) (c .before .before .put-vec2 .ensures)) (search needs) (omega arith)
 
 pub signed-guides-spec : {M : Type 1} → statement M
 signed-guides-spec =

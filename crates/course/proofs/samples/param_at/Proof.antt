@@ -4,15 +4,6 @@ use borrow.Author.Needs.{needs}
 use Rattle.course.proofs.samples.param_at.Statement.{statement}
 use Rattle.course.proofs.samples.param_at.Tie as tie
 
-add-if1 : tie.Need-add-if1
-add-if1 c = search needs
-
-cast-result : tie.Need-cast-result
-cast-result c = search needs
-
-int-to-float-result : tie.Need-int-to-float-result
-int-to-float-result c = search needs
-
 returns : tie.Need-returns
 unfolding paramAt
 returns c = rw (lt-ltb _ _ (c .before .if1 .taken))
@@ -22,4 +13,4 @@ unfolding paramAt
 returns-2 c = rw (le-ltb _ _ (c .if1 .left))
 
 pub param-at-spec : {M : Type 1} → statement M
-param-at-spec = tie.close (tie.spec add-if1 cast-result int-to-float-result returns returns-2)
+param-at-spec = tie.close (tie.spec (λ c. search needs) (λ c. search needs) (λ c. search needs) returns returns-2)

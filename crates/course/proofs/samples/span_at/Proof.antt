@@ -4,19 +4,13 @@ use borrow.Author.Needs.{needs}
 use Rattle.course.proofs.samples.span_at.Statement.{statement}
 use Rattle.course.proofs.samples.span_at.Tie as tie
 
-add-if1 : tie.Need-add-if1
-add-if1 c = search needs
-
 returns : tie.Need-returns
 unfolding spanAt
 returns c = (rw (lt-ltb _ _ (c .if1 .taken)), search needs)
-
-sub-result : tie.Need-sub-result
-sub-result c = search needs
 
 returns-2 : tie.Need-returns-2
 unfolding spanAt
 returns-2 c = (rw (le-ltb _ _ (c .if1 .left)), search needs)
 
 pub span-at-spec : {M : Type 1} → statement M
-span-at-spec = tie.close (tie.spec add-if1 returns sub-result returns-2)
+span-at-spec = tie.close (tie.spec (λ c. search needs) returns (λ c. search needs) returns-2)

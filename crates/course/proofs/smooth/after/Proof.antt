@@ -3,12 +3,6 @@ use borrow.Author.Needs.{needs}
 use Rattle.course.proofs.smooth.after.Statement.{statement}
 use Rattle.course.proofs.smooth.after.Tie as tie
 
-add-if1 : tie.Need-add-if1
-add-if1 c = search needs
-
-add-result : tie.Need-add-result
-add-result c = search needs
-
 returns : tie.Need-returns
 returns c = (rw (lt-ltb _ _ (c .if1 .taken)), search needs, search needs)
 
@@ -16,4 +10,4 @@ returns-2 : tie.Need-returns-2
 returns-2 c = (rw (le-ltb _ _ (c .if1 .left)), search needs, search needs)
 
 pub after-spec : {M : Type 1} → statement M
-after-spec = tie.close (tie.spec add-if1 add-result returns returns-2)
+after-spec = tie.close (tie.spec (λ c. search needs) (λ c. search needs) returns returns-2)

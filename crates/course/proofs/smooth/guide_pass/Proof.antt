@@ -30,7 +30,10 @@ put-vec-requires : tie.Need-put-vec-requires Inv-loop μ-loop
 put-vec-requires c κs = omega (arith, kept _ _ _ (c .before .before .before .before .before .before .before .before .loop .inv .2))
 
 loop-again : tie.Need-loop-again Inv-loop μ-loop
-loop-again c = let s = guide-step _ _ (c .before .before .before .before .before .before .before .before .before .before .before .loop .i) (c .before .before .before .before .before .before .after .result) (c .before .before .before .before .before .before .before .before .before .before .before .loop .inv .2) (c .before .before .before .before .before .before .before .before .before .before .before .loop .inv .1) (c .before .before .before .before .before .before .before .before .get-vec2 .ensures) (c .before .before .before .before .before .get-vec3 .ensures) (c .before .before .before .before .before .before .after .ensures .0) (c .before .before .before .before .before .before .after .ensures .2) (c .before .before .before .smooth-guide .ensures) (c .before .before .put-vec .ensures) in
+loop-again c =
+    let loop = c .before .before .before .before .before .before .before .before .before .before .before .loop in
+    let after = c .before .before .before .before .before .before .after in
+    let s = guide-step _ _ (loop .i) (after .result) (loop .inv .2) (loop .inv .1) (c .before .before .before .before .before .before .before .before .get-vec2 .ensures) (c .before .before .before .before .before .get-vec3 .ensures) (after .ensures .0) (after .ensures .2) (c .before .before .before .smooth-guide .ensures) (c .before .before .put-vec .ensures) in
     (omega arith, s .0, s .1)
 
 same-length : tie.Need-same-length Inv-loop μ-loop

@@ -23,7 +23,9 @@ position-pass-requires : tie.Need-position-pass-requires Inv-loop μ-loop
 position-pass-requires c κs = (omega (arith, c .before .before .before .before .pre .two), omega (arith, c .before .before .before .before .pre .whole))
 
 loop-again : tie.Need-loop-again Inv-loop μ-loop
-loop-again c = (omega arith, ap length (c .before .before .position-pass .ensures) ∙ length-points (vectors (now (c .before .before .before .before .before .before .before .args .list))) (c .before .before .before .before .before .loop .list) ∙ c .before .before .before .before .before .loop .inv .1, again _ (c .before .before .before .before .before .loop .k) _ (c .before .before .position-pass .ensures) (c .before .before .before .before .before .loop .inv .2))
+loop-again c =
+    let loop = c .before .before .before .before .before .loop in
+    (omega arith, ap length (c .before .before .position-pass .ensures) ∙ length-points (vectors (now (c .before .before .before .before .before .before .before .args .list))) (loop .list) ∙ loop .inv .1, again _ (loop .k) _ (c .before .before .position-pass .ensures) (loop .inv .2))
 
 same-length : tie.Need-same-length Inv-loop μ-loop
 same-length c = c .before .loop .inv .1

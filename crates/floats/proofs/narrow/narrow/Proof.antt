@@ -6,9 +6,6 @@ use borrow.Author.Needs.{needs}
 use Rattle.floats.proofs.narrow.narrow.Statement.{statement}
 use Rattle.floats.proofs.narrow.narrow.Tie as tie
 
-narrow-bits-requires : tie.Need-narrow-bits-requires
-narrow-bits-requires c κs = search needs
-
 returns : tie.Need-returns
 returns c = zero-over-zero ∙ sym (nan-of binary32 (narrowed binary32 (ofBits binary64 (c .before .before .args .b))) (narrowed-fits binary32 (ofBits binary64 (c .before .before .args .b))) (sym (c .before .narrow-bits .ensures) ∙ c .if1 .taken ∙ sym bits-nan))
 
@@ -19,4 +16,4 @@ returns-2 : tie.Need-returns-2
 returns-2 c = value-of binary32 (narrowed binary32 (ofBits binary64 (c .before .before .args .b))) (c .before .narrow-bits .result) (narrowed-fits binary32 (ofBits binary64 (c .before .before .args .b))) (c .before .narrow-bits .ensures)
 
 pub narrow-spec : {M : Type 1} → statement M
-narrow-spec = tie.close (tie.spec narrow-bits-requires returns float-from-bits-result returns-2)
+narrow-spec = tie.close (tie.spec (λ c κs. search needs) returns float-from-bits-result returns-2)

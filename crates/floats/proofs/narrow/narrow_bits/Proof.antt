@@ -14,9 +14,6 @@ use Rattle.floats.proofs.narrow.narrow_bits.Tie as tie
 returns : tie.Need-returns
 returns c = is-nan (c .before .args .b) (c .if1 .taken)
 
-magnitude-requires : tie.Need-magnitude-requires
-magnitude-requires c κs = search needs
-
 cast-result : tie.Need-cast-result
 cast-result c = omega arith
 
@@ -35,4 +32,11 @@ returns-3 c = let b = c .before .before .before .args .b in add-comm (c .before 
 pub narrow-bits-spec : {M : Type 1} → statement M
 narrow-bits-spec =
     tie.close
-    (tie.spec returns magnitude-requires cast-result returns-2 add-result cast-result-2 returns-3)
+    (tie.spec
+    returns
+    (λ c κs. search needs)
+    cast-result
+    returns-2
+    add-result
+    cast-result-2
+    returns-3)

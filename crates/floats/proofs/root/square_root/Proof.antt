@@ -22,13 +22,19 @@ float-to-bits-root-bits : tie.Need-float-to-bits-root-bits
 float-to-bits-root-bits c = same-no-nan (c .before .args .x) (c .if1 .left)
 
 returns-2 : tie.Need-returns-2
-returns-2 c = zero-over-zero ∙ sym (nan-of binary32 (root binary32 (c .before .before .before .args .x)) (root-fits binary32 (c .before .before .before .args .x) (held (c .before .before .before))) (sym (c .before .root-bits .ensures ∙ back (c .before .before .before .args .x) (held (c .before .before .before))) ∙ c .if2 .taken ∙ sym bits-nan))
+returns-2 c =
+    let p = c .before .before .before .args .x in
+    zero-over-zero ∙ sym (nan-of binary32 (root binary32 p) (root-fits binary32 p (held (c .before .before .before))) (sym (c .before .root-bits .ensures ∙ back p (held (c .before .before .before))) ∙ c .if2 .taken ∙ sym bits-nan))
 
 float-from-bits-result : tie.Need-float-from-bits-result
-float-from-bits-result c = no-nan-of binary32 (root binary32 (c .before .before .before .args .x)) (c .before .root-bits .result) (root-fits binary32 (c .before .before .before .args .x) (held (c .before .before .before))) (c .before .root-bits .ensures ∙ back (c .before .before .before .args .x) (held (c .before .before .before))) (λ e. c .if2 .left (e ∙ bits-nan))
+float-from-bits-result c =
+    let p = c .before .before .before .args .x in
+    no-nan-of binary32 (root binary32 p) (c .before .root-bits .result) (root-fits binary32 p (held (c .before .before .before))) (c .before .root-bits .ensures ∙ back p (held (c .before .before .before))) (λ e. c .if2 .left (e ∙ bits-nan))
 
 returns-3 : tie.Need-returns-3
-returns-3 c = value-of binary32 (root binary32 (c .before .before .before .args .x)) (c .before .root-bits .result) (root-fits binary32 (c .before .before .before .args .x) (held (c .before .before .before))) (c .before .root-bits .ensures ∙ back (c .before .before .before .args .x) (held (c .before .before .before)))
+returns-3 c =
+    let p = c .before .before .before .args .x in
+    value-of binary32 (root binary32 p) (c .before .root-bits .result) (root-fits binary32 p (held (c .before .before .before))) (c .before .root-bits .ensures ∙ back p (held (c .before .before .before)))
 
 pub square-root-spec : {M : Type 1} → statement M
 square-root-spec =

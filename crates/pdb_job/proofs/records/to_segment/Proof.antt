@@ -4,14 +4,8 @@ use borrow.Author.Needs.{needs}
 use Rattle.pdb_job.proofs.records.to_segment.Statement.{statement}
 use Rattle.pdb_job.proofs.records.to_segment.Tie as tie
 
-find-requires : tie.Need-find-requires
-find-requires c κs = search needs
-
 serial-at-requires : tie.Need-serial-at-requires
 serial-at-requires c κs = (omega arith, omega (arith, c .find .ensures .1, c .before .pre .few))
-
-find-requires-2 : tie.Need-find-requires-2
-find-requires-2 c κs = search needs
 
 serial-at-requires-2 : tie.Need-serial-at-requires-2
 serial-at-requires-2 c κs = (omega arith, omega (arith, c .find2 .ensures .1, c .before .before .before .pre .few))
@@ -25,4 +19,9 @@ returns c = λ s R.
 pub to-segment-spec : {M : Type 1} → statement M
 to-segment-spec =
     tie.close
-    (tie.spec find-requires serial-at-requires find-requires-2 serial-at-requires-2 returns)
+    (tie.spec
+    (λ c κs. search needs)
+    serial-at-requires
+    (λ c κs. search needs)
+    serial-at-requires-2
+    returns)

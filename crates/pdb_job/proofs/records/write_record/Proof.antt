@@ -25,16 +25,22 @@ returns-2 c = let q = counts-are _ _ (c .before .before .before .before .before 
     (λ s R M. wrote-atom _ s _ _ _ _ _ _ (c .before .before .before .before .before .before .before .r2 .given .1) (c .before .before .before .before .before .to-atom .ensures s (R .keyed) M) (c .before .before .before .put-atom .ensures), omega (arith, q .0), omega (arith, q .1))
 
 returns-3 : tie.Need-returns-3
-returns-3 c = let q = counts-are _ _ (c .enum-told .given .1) in
-    (λ s R M. wrote-none _ s _ _ _ (ap segmentsIn (c .enum-told .given .1)) (ap atomsIn (c .enum-told .given .1)), omega (arith, q .0), omega (arith, q .1))
+returns-3 c =
+    let p = c .enum-told .given .1 in
+    let q = counts-are _ _ p in
+    (λ s R M. wrote-none _ s _ _ _ (ap segmentsIn p) (ap atomsIn p), omega (arith, q .0), omega (arith, q .1))
 
 returns-4 : tie.Need-returns-4
-returns-4 c = let q = counts-are _ _ (c .enum-told2 .given .1) in
-    (λ s R M. wrote-none _ s _ _ _ (ap segmentsIn (c .enum-told2 .given .1)) (ap atomsIn (c .enum-told2 .given .1)), omega (arith, q .0), omega (arith, q .1))
+returns-4 c =
+    let p = c .enum-told2 .given .1 in
+    let q = counts-are _ _ p in
+    (λ s R M. wrote-none _ s _ _ _ (ap segmentsIn p) (ap atomsIn p), omega (arith, q .0), omega (arith, q .1))
 
 returns-5 : tie.Need-returns-5
-returns-5 c = let q = counts-are _ _ (c .enum-told3 .given .1) in
-    (λ s R M. wrote-none _ s _ _ _ (ap segmentsIn (c .enum-told3 .given .1)) (ap atomsIn (c .enum-told3 .given .1)), omega (arith, q .0), omega (arith, q .1))
+returns-5 c =
+    let p = c .enum-told3 .given .1 in
+    let q = counts-are _ _ p in
+    (λ s R M. wrote-none _ s _ _ _ (ap segmentsIn p) (ap atomsIn p), omega (arith, q .0), omega (arith, q .1))
 
 pub write-record-spec : {M : Type 1} → statement M
 write-record-spec =

@@ -26,16 +26,21 @@ returns : tie.Need-returns Inv-loop μ-loop
 returns c = writing-over _ _ _ _ _ _ _ _ (c .before .before .before .loop .inv) (stepped-done _ _ _ _ (c .before .before .step .ensures) (c .enum-told .given .1))
 
 write-record-requires : tie.Need-write-record-requires Inv-loop μ-loop
-write-record-requires c κs = let o = stepped-got _ _ _ _ _ _ _ (c .before .before .before .before .step .ensures) (c .before .before .next .given .1) in
-    (c .before .before .before .before .before .before .before .before .pre .0 .index, writing-held _ _ _ _ _ _ _ _ (c .before .before .before .before .before .loop .inv) _ _ _ o _ _ _ _ (c .before .before .before .before .before .before .before .before .pre .0 .keyed) (c .before .before .before .before .before .before .before .before .pre .1), writing-segment _ _ _ _ _ _ _ _ (c .before .before .before .before .before .loop .inv) _ _ _ o, writing-atom _ _ _ _ _ _ _ _ (c .before .before .before .before .before .loop .inv) _ _ _ o)
+write-record-requires c κs =
+    let pre = c .before .before .before .before .before .before .before .before .pre in
+    let inv = c .before .before .before .before .before .loop .inv in
+    let o = stepped-got _ _ _ _ _ _ _ (c .before .before .before .before .step .ensures) (c .before .before .next .given .1) in
+    (pre .0 .index, writing-held _ _ _ _ _ _ _ _ inv _ _ _ o _ _ _ _ (pre .0 .keyed) (pre .1), writing-segment _ _ _ _ _ _ _ _ inv _ _ _ o, writing-atom _ _ _ _ _ _ _ _ inv _ _ _ o)
 
 loop-less : tie.Need-loop-less Inv-loop μ-loop
 loop-less c = let o = stepped-got _ _ _ _ _ _ _ (c .before .before .before .before .before .before .before .step .ensures) (c .before .before .before .before .before .next .given .1) in
     omega (arith, o .more, o .within)
 
 loop-again : tie.Need-loop-again Inv-loop μ-loop
-loop-again c = let o = stepped-got _ _ _ _ _ _ _ (c .before .before .before .before .before .before .before .step .ensures) (c .before .before .before .before .before .next .given .1) in
-    writing-more _ _ _ _ _ _ _ _ (c .before .before .before .before .before .before .before .before .loop .inv) _ _ _ o _ _ (c .before .before .write-record .ensures .0 _ (c .before .before .before .before .before .before .before .before .before .before .before .pre .0) (c .before .before .before .before .before .before .before .before .before .before .before .pre .1)) (c .before .before .write-record .ensures .1) (c .before .before .write-record .ensures .2)
+loop-again c =
+    let p = c .before .before .write-record .ensures in
+    let o = stepped-got _ _ _ _ _ _ _ (c .before .before .before .before .before .before .before .step .ensures) (c .before .before .before .before .before .next .given .1) in
+    writing-more _ _ _ _ _ _ _ _ (c .before .before .before .before .before .before .before .before .loop .inv) _ _ _ o _ _ (p .0 _ (c .before .before .before .before .before .before .before .before .before .before .before .pre .0) (c .before .before .before .before .before .before .before .before .before .before .before .pre .1)) (p .1) (p .2)
 
 pub write-records-spec : {M : Type 1} → statement M
 write-records-spec =

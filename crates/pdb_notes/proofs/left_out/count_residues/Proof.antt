@@ -1,14 +1,9 @@
-use mathlib.Core.Path.{refl}
 use Prim.Native.Nat.{ℕ}
-use lib.ListN.{replicate, length-replicate}
+use lib.ListN.{length-replicate}
 use Rattle.appearance.proofs.Holding.{empty-index, holding-none}
 use Rattle.pdb_notes.proofs.Gathering.{both-counted}
-use borrow.Author.Needs.{needs}
 use Rattle.pdb_notes.proofs.left_out.count_residues.Statement.{statement}
 use Rattle.pdb_notes.proofs.left_out.count_residues.Tie as tie
-use Rattle.pdb_notes.proofs.left_out.count_residues.Reads as reads
-use Rattle.pdb_notes.proofs.left_out.count_residues.Lts as lts
-use Rattle.pdb_notes.proofs.left_out.gather.Reads as gather-reads
 
 gather-requires : tie.Need-gather-requires
 gather-requires c κs = empty-index _ (length-replicate {A = ℕ} 16384 0)

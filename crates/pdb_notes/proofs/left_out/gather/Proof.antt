@@ -20,7 +20,9 @@ next-line-requires : tie.Need-next-line-requires Inv-loop μ-loop
 next-line-requires c κs = c .loop .inv .inside
 
 returns : tie.Need-returns Inv-loop μ-loop
-returns c = (gathering-over _ _ _ _ _ _ _ _ _ _ (c .before .before .before .loop .inv) (found-done _ _ _ _ _ (c .before .before .next-line .ensures) (c .enum-told .given .1)), (c .before .before .before .loop .inv .index, c .before .before .before .loop .inv .grown))
+returns c =
+    let inv = c .before .before .before .loop .inv in
+    (gathering-over _ _ _ _ _ _ _ _ _ _ inv (found-done _ _ _ _ _ (c .before .before .next-line .ensures) (c .enum-told .given .1)), (inv .index, inv .grown))
 
 sub-name-in : tie.Need-sub-name-in Inv-loop μ-loop
 sub-name-in c = found-got _ _ _ _ _ _ (c .before .before .before .before .before .next-line .ensures) (c .before .before .before .next .given .1) .start
@@ -47,7 +49,9 @@ loop-less : tie.Need-loop-less Inv-loop μ-loop
 loop-less c = let o = found-got _ _ _ _ _ _ (c .before .before .before .before .before .before .before .before .before .before .next-line .ensures) (c .before .before .before .before .before .before .before .before .next .given .1) in omega (arith, o .more, o .within)
 
 loop-again : tie.Need-loop-again Inv-loop μ-loop
-loop-again c = gathering-more _ _ _ _ _ _ _ _ _ _ (c .before .before .before .before .before .before .before .before .before .before .before .loop .inv) _ (found-got _ _ _ _ _ _ (c .before .before .before .before .before .before .before .before .before .before .next-line .ensures) (c .before .before .before .before .before .before .before .before .next .given .1)) _ (c .before .before .before .name-in .ensures) _ _ _ (c .before .before .add .ensures .0) (c .before .before .add .ensures .1 .0) (c .before .before .add .ensures .1 .1)
+loop-again c =
+    let p = c .before .before .add .ensures in
+    gathering-more _ _ _ _ _ _ _ _ _ _ (c .before .before .before .before .before .before .before .before .before .before .before .loop .inv) _ (found-got _ _ _ _ _ _ (c .before .before .before .before .before .before .before .before .before .before .next-line .ensures) (c .before .before .before .before .before .before .before .before .next .given .1)) _ (c .before .before .before .name-in .ensures) _ _ _ (p .0) (p .1 .0) (p .1 .1)
 
 pub gather-spec : {M : Type 1} → statement M
 gather-spec =

@@ -3,12 +3,6 @@ use borrow.Author.Needs.{needs}
 use Rattle.shape.proofs.guides.agreeing.Statement.{statement}
 use Rattle.shape.proofs.guides.agreeing.Tie as tie
 
-dot-requires : tie.Need-dot-requires
-dot-requires c κs = search needs
-
-scale-requires : tie.Need-scale-requires
-scale-requires c κs = search needs
-
 returns : tie.Need-returns
 unfolding agreeing
 returns c = rw (← c .before .before .dot .ensures, c .before .if1 .taken) (c .scale .ensures)
@@ -18,4 +12,4 @@ unfolding agreeing
 returns-2 c = rw (← c .before .dot .ensures, c .if1 .left)
 
 pub agreeing-spec : {M : Type 1} → statement M
-agreeing-spec = tie.close (tie.spec dot-requires scale-requires returns returns-2)
+agreeing-spec = tie.close (tie.spec (λ c κs. search needs) (λ c κs. search needs) returns returns-2)

@@ -4,19 +4,13 @@ use borrow.Author.Needs.{needs}
 use Rattle.shape.proofs.guides.directed.Statement.{statement}
 use Rattle.shape.proofs.guides.directed.Tie as tie
 
-length-requires : tie.Need-length-requires
-length-requires c κs = search needs
-
 returns : tie.Need-returns
 unfolding directed
 returns c = rw (← c .before .length .ensures, c .if1 .taken)
-
-normalised-by-requires : tie.Need-normalised-by-requires
-normalised-by-requires c κs = search needs
 
 returns-2 : tie.Need-returns-2
 unfolding directed normalised
 returns-2 c = rw (← c .before .before .length .ensures, c .before .if1 .left) (c .normalised-by .ensures)
 
 pub directed-spec : {M : Type 1} → statement M
-directed-spec = tie.close (tie.spec length-requires returns normalised-by-requires returns-2)
+directed-spec = tie.close (tie.spec (λ c κs. search needs) returns (λ c κs. search needs) returns-2)

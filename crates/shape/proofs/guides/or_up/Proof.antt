@@ -3,9 +3,6 @@ use borrow.Author.Needs.{needs}
 use Rattle.shape.proofs.guides.or_up.Statement.{statement}
 use Rattle.shape.proofs.guides.or_up.Tie as tie
 
-length-requires : tie.Need-length-requires
-length-requires c κs = search needs
-
 returns : tie.Need-returns
 unfolding orUp
 returns c = rw (← c .before .length .ensures, c .if1 .taken)
@@ -15,4 +12,4 @@ unfolding orUp
 returns-2 c = rw (← c .before .length .ensures, c .if1 .left)
 
 pub or-up-spec : {M : Type 1} → statement M
-or-up-spec = tie.close (tie.spec length-requires returns returns-2)
+or-up-spec = tie.close (tie.spec (λ c κs. search needs) returns returns-2)

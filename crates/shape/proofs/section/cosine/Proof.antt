@@ -6,12 +6,6 @@ use borrow.Author.Needs.{needs}
 use Rattle.shape.proofs.section.cosine.Statement.{statement}
 use Rattle.shape.proofs.section.cosine.Tie as tie
 
-mul-result : tie.Need-mul-result
-mul-result c = search needs
-
-array-read-result : tie.Need-array-read-result
-array-read-result c = search needs
-
 float-from-bits-result : tie.Need-float-from-bits-result
 unfolding number cosBits nanBits
 float-from-bits-result c = at number cosBits tt (c .args .k) (search needs)
@@ -21,4 +15,4 @@ unfolding cosAt cosBits
 returns c = refl
 
 pub cosine-spec : {M : Type 1} → statement M
-cosine-spec = tie.close (tie.spec mul-result array-read-result float-from-bits-result returns)
+cosine-spec = tie.close (tie.spec (λ c. search needs) (λ c. search needs) float-from-bits-result returns)

@@ -6,15 +6,6 @@ use Rattle.shape.proofs.section.in_arrow.Tie as tie
 enum-told : tie.Need-enum-told
 enum-told c = search needs
 
-enum-told-2 : tie.Need-enum-told-2
-enum-told-2 c = search needs
-
-enum-told-3 : tie.Need-enum-told-3
-enum-told-3 c = search needs
-
-add-result : tie.Need-add-result
-add-result c = search needs
-
 returns : tie.Need-returns
 unfolding inArrow
 returns c = rw (c .enum-told .given .1)
@@ -28,5 +19,4 @@ unfolding inArrow
 returns-3 c = rw (c .enum-told3 .given .1)
 
 pub in-arrow-spec : {M : Type 1} → statement M
-in-arrow-spec =
-    tie.close (tie.spec enum-told enum-told-2 enum-told-3 add-result returns returns-2 returns-3)
+in-arrow-spec = tie.close (tie.spec enum-told (λ c. search needs) (λ c. search needs) (λ c. search needs) returns returns-2 returns-3)

@@ -3,15 +3,6 @@ use borrow.Author.Needs.{needs}
 use Rattle.shape.proofs.section.profile.Statement.{statement}
 use Rattle.shape.proofs.section.profile.Tie as tie
 
-half-sizes-requires : tie.Need-half-sizes-requires
-half-sizes-requires c κs = search needs
-
-in-arrow-requires : tie.Need-in-arrow-requires
-in-arrow-requires c κs = search needs
-
-arrow-requires : tie.Need-arrow-requires
-arrow-requires c κs = search needs
-
 returns : tie.Need-returns
 unfolding profileOf
 returns c = rw (← c .before .before .in-arrow .ensures, c .before .if1 .taken, c .arrow .ensures, c .before .before .before .half-sizes .ensures)
@@ -21,5 +12,4 @@ unfolding profileOf
 returns-2 c = rw (← c .before .in-arrow .ensures, c .if1 .left) (c .before .before .half-sizes .ensures)
 
 pub profile-spec : {M : Type 1} → statement M
-profile-spec =
-    tie.close (tie.spec half-sizes-requires in-arrow-requires arrow-requires returns returns-2)
+profile-spec = tie.close (tie.spec (λ c κs. search needs) (λ c κs. search needs) (λ c κs. search needs) returns returns-2)

@@ -6,12 +6,6 @@ use borrow.Author.Needs.{needs}
 use Rattle.shape.proofs.section.sine.Statement.{statement}
 use Rattle.shape.proofs.section.sine.Tie as tie
 
-mul-result : tie.Need-mul-result
-mul-result c = search needs
-
-array-read-result : tie.Need-array-read-result
-array-read-result c = search needs
-
 float-from-bits-result : tie.Need-float-from-bits-result
 unfolding number sinBits nanBits
 float-from-bits-result c = at number sinBits tt (c .args .k) (search needs)
@@ -21,4 +15,4 @@ unfolding sinAt sinBits
 returns c = refl
 
 pub sine-spec : {M : Type 1} → statement M
-sine-spec = tie.close (tie.spec mul-result array-read-result float-from-bits-result returns)
+sine-spec = tie.close (tie.spec (λ c. search needs) (λ c. search needs) float-from-bits-result returns)

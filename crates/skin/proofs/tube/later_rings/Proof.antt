@@ -22,7 +22,9 @@ unfolding put upto
 loop-holds c = (omega arith, omega arith, record { pos = refl; norm = refl; tag = refl })
 
 span-rings-requires : tie.Need-span-rings-requires Inv-loop μ-loop
-span-rings-requires c κs = ((c .before .before .before .before .before .before .before .before .before .before .pre .0, room _ _ _ _ _ (c .before .before .before .before .loop .inv .2) (c .before .before .before .before .before .before .before .before .before .before .pre .1) (c .before .before .before .before .loop .at + 8 * (8 - (c .before .before .before .before .loop .s + 1) % 8)) (omega arith)), (omega arith, omega arith))
+span-rings-requires c κs =
+    let loop = c .before .before .before .before .loop in
+    ((c .before .before .before .before .before .before .before .before .before .before .pre .0, room _ _ _ _ _ (loop .inv .2) (c .before .before .before .before .before .before .before .before .before .before .pre .1) (loop .at + 8 * (8 - (loop .s + 1) % 8)) (omega arith)), (omega arith, omega arith))
 
 add-s : tie.Need-add-s Inv-loop μ-loop
 add-s c = omega (arith, c .before .before .before .before .before .before .before .before .before .before .before .loop, c .before .before .before .before .before .before .before .before .before .before .loop-test, c .before .before .before .before .before .before .before .before .before .before .before .before .before .before .before .before .before)
@@ -37,14 +39,17 @@ loop-less : tie.Need-loop-less Inv-loop μ-loop
 loop-less c = omega (arith, c .before .before .before .before .before .before .before .before .before .before .before .loop, c .before .before .before .before .before .before .before .before .before .before .loop-test, c .before .before .before .before .before .before .before .before .before .before .before .before .before .before .before .before .before)
 
 loop-again : tie.Need-loop-again Inv-loop μ-loop
-loop-again c = let p = now (c .before .before .before .before .before .before .before .before .before .before .before .before .before .before .before .before .before .args .points) in
-    let g = now (c .before .before .before .before .before .before .before .before .before .before .before .before .before .before .before .before .before .args .guides) in
-    let n = c .before .before .before .before .before .before .before .before .before .before .before .before .before .before .before .before .before .args .n in
-    let kind = c .before .before .before .before .before .before .before .before .before .before .before .before .before .before .before .before .before .args .kind in
-    let first = c .before .before .before .before .before .before .before .before .before .before .before .before .before .before .before .before .before .args .first in
-    let s = c .before .before .before .before .before .before .before .before .before .before .before .loop .s in
+loop-again c =
+    let args = c .before .before .before .before .before .before .before .before .before .before .before .before .before .before .before .before .before .args in
+    let loop = c .before .before .before .before .before .before .before .before .before .before .before .loop in
+    let p = now (args .points) in
+    let g = now (args .guides) in
+    let n = args .n in
+    let kind = args .kind in
+    let first = args .first in
+    let s = loop .s in
     let step : (j : ℕ) → s + 1 + j ≡ s + j + 1 = λ j. omega arith in
-    (omega (arith, c .before .before .before .before .before .before .before .before .before .before .before .loop, c .before .before .before .before .before .before .before .before .before .before .loop-test, c .before .before .before .before .before .before .before .before .before .before .before .before .before .before .before .before .before), omega (arith, c .before .before .before .before .before .before .before .before .before .before .before .loop, c .before .before .before .before .before .before .before .before .before .before .loop-test, c .before .before .before .before .before .before .before .before .before .before .before .before .before .before .before .before .before), wrote-more _ _ _ _ _ _ 8 (λ s. length-positions kind p g n (s + 1)) (λ s. length-normals kind p g n (s + 1)) (λ s. length-tags first n (s + 1)) _ _ s _ (λ j. ap (ringPositions kind p g n) (step j)) (λ j. ap (ringNormals kind p g n) (step j)) (λ j. ap (ringTags first n) (step j)) (c .before .before .before .before .before .before .span-rings .ensures) (c .before .before .before .before .before .before .before .before .before .before .before .loop .inv .2) (c .before .before .before .before .before .before .before .before .before .before .before .loop .inv .1))
+    (omega (arith, loop, c .before .before .before .before .before .before .before .before .before .before .loop-test, c .before .before .before .before .before .before .before .before .before .before .before .before .before .before .before .before .before), omega (arith, loop, c .before .before .before .before .before .before .before .before .before .before .loop-test, c .before .before .before .before .before .before .before .before .before .before .before .before .before .before .before .before .before), wrote-more _ _ _ _ _ _ 8 (λ s. length-positions kind p g n (s + 1)) (λ s. length-normals kind p g n (s + 1)) (λ s. length-tags first n (s + 1)) _ _ s _ (λ j. ap (ringPositions kind p g n) (step j)) (λ j. ap (ringNormals kind p g n) (step j)) (λ j. ap (ringTags first n) (step j)) (c .before .before .before .before .before .before .span-rings .ensures) (loop .inv .2) (loop .inv .1))
 
 same-length : tie.Need-same-length Inv-loop μ-loop
 same-length c = kept _ _ _ (c .before .loop .inv .2 .pos)

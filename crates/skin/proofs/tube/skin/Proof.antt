@@ -9,17 +9,25 @@ use Rattle.skin.proofs.tube.skin.Statement.{statement}
 use Rattle.skin.proofs.tube.skin.Tie as tie
 
 later-rings-requires : tie.Need-later-rings-requires
-later-rings-requires c κs = (c .before .before .before .before .before .before .before .before .before .before .before .before .before .before .before .before .before .before .pre .0, room _ _ _ _ _ (c .before .before .before .before .before .before .before .before .before .start-cap .ensures) (c .before .before .before .before .before .before .before .before .before .before .before .before .before .before .before .before .before .before .pre .1) _ (omega (arith, vertex-count (c .before .before .before .before .before .before .before .before .before .before .before .before .before .before .before .before .before .before .args .n) (c .before .before .before .before .before .before .before .before .before .before .before .before .before .before .before .before .before .before .pre .0 .two), c .before .before .before .before .before .before .before .before .before .before .before .before .before .before .before .before .before .before .pre .0 .two)))
+later-rings-requires c κs =
+    let pre = c .before .before .before .before .before .before .before .before .before .before .before .before .before .before .before .before .before .before .pre in
+    (pre .0, room _ _ _ _ _ (c .before .before .before .before .before .before .before .before .before .start-cap .ensures) (pre .1) _ (omega (arith, vertex-count (c .before .before .before .before .before .before .before .before .before .before .before .before .before .before .before .before .before .before .args .n) (pre .0 .two), pre .0 .two)))
 
 end-cap-requires : tie.Need-end-cap-requires
-end-cap-requires c κs = (c .before .before .before .before .before .before .before .before .before .before .before .before .before .before .before .before .before .before .before .before .before .before .before .before .before .before .before .before .pre .0, room _ _ _ _ _ (c .before .before .before .before .before .before .before .before .before .later-rings .ensures) (same-room _ _ _ _ (c .before .before .before .before .before .before .before .before .before .before .before .before .before .before .before .before .before .before .before .start-cap .ensures) (c .before .before .before .before .before .before .before .before .before .before .before .before .before .before .before .before .before .before .before .before .before .before .before .before .before .before .before .before .pre .1)) _ (omega (arith, vertex-count (c .before .before .before .before .before .before .before .before .before .before .before .before .before .before .before .before .before .before .before .before .before .before .before .before .before .before .before .before .args .n) (c .before .before .before .before .before .before .before .before .before .before .before .before .before .before .before .before .before .before .before .before .before .before .before .before .before .before .before .before .pre .0 .two), c .before .before .before .before .before .before .before .before .before .before .before .before .before .before .before .before .before .before .before .before .before .before .before .before .before .before .before .before .pre .0 .two)))
+end-cap-requires c κs =
+    let pre = c .before .before .before .before .before .before .before .before .before .before .before .before .before .before .before .before .before .before .before .before .before .before .before .before .before .before .before .before .pre in
+    (pre .0, room _ _ _ _ _ (c .before .before .before .before .before .before .before .before .before .later-rings .ensures) (same-room _ _ _ _ (c .before .before .before .before .before .before .before .before .before .before .before .before .before .before .before .before .before .before .before .start-cap .ensures) (pre .1)) _ (omega (arith, vertex-count (c .before .before .before .before .before .before .before .before .before .before .before .before .before .before .before .before .before .before .before .before .before .before .before .before .before .before .before .before .args .n) (pre .0 .two), pre .0 .two)))
 
 returns : tie.Need-returns
 unfolding skinPositions skinNormals tagsOf
-returns c = whole (c .before .before .before .before .before .before .before .before .before .before .before .before .before .before .before .before .before .before .before .before .before .before .before .before .before .before .before .before .before .before .before .before .before .before .before .args .kind) (now (c .before .before .before .before .before .before .before .before .before .before .before .before .before .before .before .before .before .before .before .before .before .before .before .before .before .before .before .before .before .before .before .before .before .before .before .args .points)) (now (c .before .before .before .before .before .before .before .before .before .before .before .before .before .before .before .before .before .before .before .before .before .before .before .before .before .before .before .before .before .before .before .before .before .before .before .args .guides)) (c .before .before .before .before .before .before .before .before .before .before .before .before .before .before .before .before .before .before .before .before .before .before .before .before .before .before .before .before .before .before .before .before .before .before .before .args .n) (c .before .before .before .before .before .before .before .before .before .before .before .before .before .before .before .before .before .before .before .before .before .before .before .before .before .before .before .before .before .before .before .before .before .before .before .args .first) _ _ _ _ _ _ (c .before .before .before .before .before .before .before .before .before .before .before .before .before .before .before .before .before .before .before .before .before .before .before .before .before .before .before .before .before .before .before .before .before .before .before .args .v) _ _ (c .before .before .before .before .before .before .before .before .before .before .before .before .before .before .before .before .before .before .before .before .before .before .before .before .before .before .before .before .before .before .before .before .before .before .before .pre .0 .two) refl refl (c .before .before .before .before .before .before .before .before .before .before .before .before .before .before .before .before .before .before .before .before .before .before .before .before .before .before .start-cap .ensures) (c .before .before .before .before .before .before .before .before .before .before .before .before .before .before .before .before .later-rings .ensures) (c .before .before .before .before .before .before .end-cap .ensures)
+returns c =
+    let args = c .before .before .before .before .before .before .before .before .before .before .before .before .before .before .before .before .before .before .before .before .before .before .before .before .before .before .before .before .before .before .before .before .before .before .before .args in
+    whole (args .kind) (now (args .points)) (now (args .guides)) (args .n) (args .first) _ _ _ _ _ _ (args .v) _ _ (c .before .before .before .before .before .before .before .before .before .before .before .before .before .before .before .before .before .before .before .before .before .before .before .before .before .before .before .before .before .before .before .before .before .before .before .pre .0 .two) refl refl (c .before .before .before .before .before .before .before .before .before .before .before .before .before .before .before .before .before .before .before .before .before .before .before .before .before .before .start-cap .ensures) (c .before .before .before .before .before .before .before .before .before .before .before .before .before .before .before .before .later-rings .ensures) (c .before .before .before .before .before .before .end-cap .ensures)
 
 start-cap-requires : tie.Need-start-cap-requires
-start-cap-requires c κs = (c .before .before .before .before .before .before .before .before .pre .0, less _ _ (c .before .before .before .before .before .before .before .before .pre .1) (omega (arith, vertex-count (c .before .before .before .before .before .before .before .before .args .n) (c .before .before .before .before .before .before .before .before .pre .0 .two), c .before .before .before .before .before .before .before .before .pre .0 .two)))
+start-cap-requires c κs =
+    let pre = c .before .before .before .before .before .before .before .before .pre in
+    (pre .0, less _ _ (pre .1) (omega (arith, vertex-count (c .before .before .before .before .before .before .before .before .args .n) (pre .0 .two), pre .0 .two)))
 
 pub skin-spec : {M : Type 1} → statement M
 skin-spec =

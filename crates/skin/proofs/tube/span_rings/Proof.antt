@@ -23,7 +23,9 @@ unfolding put upto
 loop-holds c = (omega arith, omega arith, record { pos = refl; norm = refl; tag = refl })
 
 ring-requires : tie.Need-ring-requires Inv-loop μ-loop
-ring-requires c κs = (c .before .before .before .before .before .before .before .before .before .before .before .before .before .pre .0 .0 .two, c .before .before .before .before .before .before .before .before .before .before .before .before .before .pre .0 .0 .most, omega (arith, c .before .before .before .before .loop, c .before .before .before .loop-test, c .before .before .before .before .before .before .before .before .before .before .before .before .before), c .before .before .before .before .before .before .before .before .before .before .before .before .before .pre .0 .0 .same)
+ring-requires c κs =
+    let r = c .before .before .before .before .before .before .before .before .before .before .before .before .before .pre .0 .0 in
+    (r .two, r .most, omega (arith, c .before .before .before .before .loop, c .before .before .before .loop-test, c .before .before .before .before .before .before .before .before .before .before .before .before .before), r .same)
 
 tag-at-requires : tie.Need-tag-at-requires Inv-loop μ-loop
 tag-at-requires c κs = (c .before .before .before .before .before .before .before .before .before .before .before .before .before .before .before .before .before .pre .0 .0 .two, omega (arith, c .before .before .before .before .before .before .before .before .loop, c .before .before .before .before .before .before .before .loop-test, c .before .before .before .before .before .before .before .before .before .before .before .before .before .before .before .before .before), c .before .before .before .before .before .before .before .before .before .before .before .before .before .before .before .before .before .pre .0 .0 .low)
@@ -42,12 +44,15 @@ loop-less c = omega (arith, c .before .before .before .before .before .before .b
 
 loop-again : tie.Need-loop-again Inv-loop μ-loop
 unfolding ringPositions ringNormals ringTags ringAt
-loop-again c = let p = now (c .before .before .before .before .before .before .before .before .before .before .before .before .before .before .before .before .before .before .before .before .before .before .before .before .before .args .points) in
-    let g = now (c .before .before .before .before .before .before .before .before .before .before .before .before .before .before .before .before .before .before .before .before .before .before .before .before .before .args .guides) in
-    let n = c .before .before .before .before .before .before .before .before .before .before .before .before .before .before .before .before .before .before .before .before .before .before .before .before .before .args .n in
-    let from = c .before .before .before .before .before .before .before .before .before .before .before .before .before .before .before .before .before .before .before .before .before .before .before .before .before .args .from in
-    let f = on-span p g n from (c .before .before .before .before .before .before .before .before .before .before .before .before .before .before .before .before .loop .j) (omega (arith, c .before .before .before .before .before .before .before .before .before .before .before .before .before .before .before .before .loop, c .before .before .before .before .before .before .before .before .before .before .before .before .before .before .before .loop-test, c .before .before .before .before .before .before .before .before .before .before .before .before .before .before .before .before .before .before .before .before .before .before .before .before .before)) (c .before .before .before .before .before .before .before .before .before .before .before .before .before .before .before .before .before .before .before .before .before .before .before .before .before .pre .1 .1) (c .before .before .before .before .before .before .before .before .before .before .before .before .before .before .before .before .before .before .before .span .ensures) (c .before .before .before .before .before .before .before .before .before .before .before .before .before .before .before .before .before .before .get-vec .ensures) (c .before .before .before .before .before .before .before .before .before .before .before .before .before .before .before .before .before .get-vec2 .ensures) (c .before .before .before .before .before .before .before .before .before .before .before .before .before .before .param-at .ensures) (c .before .before .before .before .before .before .before .before .before .before .before .before .before .between .ensures) (c .before .before .before .before .before .before .before .before .before .before .before .before .frame .ensures) in
-    (omega (arith, c .before .before .before .before .before .before .before .before .before .before .before .before .before .before .before .before .loop, c .before .before .before .before .before .before .before .before .before .before .before .before .before .before .before .loop-test, c .before .before .before .before .before .before .before .before .before .before .before .before .before .before .before .before .before .before .before .before .before .before .before .before .before), omega (arith, c .before .before .before .before .before .before .before .before .before .before .before .before .before .before .before .before .loop), wrote-turn _ _ _ 8 (λ j. length-positions (c .before .before .before .before .before .before .before .before .before .before .before .before .before .before .before .before .before .before .before .before .before .before .before .before .before .args .kind) p g n (from + j)) (λ j. length-normals (c .before .before .before .before .before .before .before .before .before .before .before .before .before .before .before .before .before .before .before .before .before .before .before .before .before .args .kind) p g n (from + j)) (λ j. length-tags (c .before .before .before .before .before .before .before .before .before .before .before .before .before .before .before .before .before .before .before .before .before .before .before .before .before .args .first) n (from + j)) _ _ (c .before .before .before .before .before .before .before .before .before .before .before .before .before .before .before .before .loop .j) (rw (c .before .before .before .before .before .before .before .before .before .before .before .ring .ensures, f, c .before .before .before .before .before .before .before .tag-at .ensures) at (c .before .before .before .before .before .before .put-ring .ensures)) (c .before .before .before .before .before .before .before .before .before .before .before .before .before .before .before .before .loop .inv .2) (c .before .before .before .before .before .before .before .before .before .before .before .before .before .before .before .before .loop .inv .1))
+loop-again c =
+    let args = c .before .before .before .before .before .before .before .before .before .before .before .before .before .before .before .before .before .before .before .before .before .before .before .before .before .args in
+    let loop = c .before .before .before .before .before .before .before .before .before .before .before .before .before .before .before .before .loop in
+    let p = now (args .points) in
+    let g = now (args .guides) in
+    let n = args .n in
+    let from = args .from in
+    let f = on-span p g n from (loop .j) (omega (arith, loop, c .before .before .before .before .before .before .before .before .before .before .before .before .before .before .before .loop-test, c .before .before .before .before .before .before .before .before .before .before .before .before .before .before .before .before .before .before .before .before .before .before .before .before .before)) (c .before .before .before .before .before .before .before .before .before .before .before .before .before .before .before .before .before .before .before .before .before .before .before .before .before .pre .1 .1) (c .before .before .before .before .before .before .before .before .before .before .before .before .before .before .before .before .before .before .before .span .ensures) (c .before .before .before .before .before .before .before .before .before .before .before .before .before .before .before .before .before .before .get-vec .ensures) (c .before .before .before .before .before .before .before .before .before .before .before .before .before .before .before .before .before .get-vec2 .ensures) (c .before .before .before .before .before .before .before .before .before .before .before .before .before .before .param-at .ensures) (c .before .before .before .before .before .before .before .before .before .before .before .before .before .between .ensures) (c .before .before .before .before .before .before .before .before .before .before .before .before .frame .ensures) in
+    (omega (arith, loop, c .before .before .before .before .before .before .before .before .before .before .before .before .before .before .before .loop-test, c .before .before .before .before .before .before .before .before .before .before .before .before .before .before .before .before .before .before .before .before .before .before .before .before .before), omega (arith, loop), wrote-turn _ _ _ 8 (λ j. length-positions (args .kind) p g n (from + j)) (λ j. length-normals (args .kind) p g n (from + j)) (λ j. length-tags (args .first) n (from + j)) _ _ (loop .j) (rw (c .before .before .before .before .before .before .before .before .before .before .before .ring .ensures, f, c .before .before .before .before .before .before .before .tag-at .ensures) at (c .before .before .before .before .before .before .put-ring .ensures)) (loop .inv .2) (loop .inv .1))
 
 same-length : tie.Need-same-length Inv-loop μ-loop
 same-length c = kept _ _ _ (c .before .loop .inv .2 .pos)

@@ -7,13 +7,19 @@ use Rattle.skin.proofs.tube.tube_vertices.Statement.{statement}
 use Rattle.skin.proofs.tube.tube_vertices.Tie as tie
 
 slice-aggregate-skin : tie.Need-slice-aggregate-skin
-slice-aggregate-skin c = sym (length-front (c .before .before .before .before .before .before .before .before .before .before .before .before .before .args .kind) (now (c .before .before .before .before .before .before .before .before .before .before .before .before .before .args .flags)) (now (c .before .before .before .before .before .before .before .before .before .before .before .before .before .args .course)) (c .before .before .before .before .before .before .before .before .before .before .before .before .before .args .n) (c .before .before .before .before .before .before .before .before .before .before .before .before .before .args .first) (c .before .before .before .before .before .before .before .before .before .before .before .before .before .pre .0) (c .before .before .before .before .lay-course .ensures))
+slice-aggregate-skin c =
+    let args = c .before .before .before .before .before .before .before .before .before .before .before .before .before .args in
+    sym (length-front (args .kind) (now (args .flags)) (now (args .course)) (args .n) (args .first) (c .before .before .before .before .before .before .before .before .before .before .before .before .before .pre .0) (c .before .before .before .before .lay-course .ensures))
 
 skin-requires : tie.Need-skin-requires
-skin-requires c κs = (laid (c .before .before .before .before .before .before .before .before .before .before .before .before .before .before .before .before .before .args .kind) (now (c .before .before .before .before .before .before .before .before .before .before .before .before .before .before .before .before .before .args .flags)) (now (c .before .before .before .before .before .before .before .before .before .before .before .before .before .before .before .before .before .args .course)) (c .before .before .before .before .before .before .before .before .before .before .before .before .before .before .before .before .before .args .n) (c .before .before .before .before .before .before .before .before .before .before .before .before .before .before .before .before .before .args .first) (c .before .before .before .before .before .before .before .before .before .before .before .before .before .before .before .before .before .pre .0) (c .before .before .before .before .before .before .before .before .lay-course .ensures) (c .before .before .before .before .before .before .before .before .before .before .spokes .ensures ∙ ap spokesOf (c .before .before .before .before .before .before .before .before .before .before .before .half-sizes .ensures)), c .before .before .before .before .before .before .before .before .before .before .before .before .before .before .before .before .before .pre .1)
+skin-requires c κs =
+    let args = c .before .before .before .before .before .before .before .before .before .before .before .before .before .before .before .before .before .args in
+    (laid (args .kind) (now (args .flags)) (now (args .course)) (args .n) (args .first) (c .before .before .before .before .before .before .before .before .before .before .before .before .before .before .before .before .before .pre .0) (c .before .before .before .before .before .before .before .before .lay-course .ensures) (c .before .before .before .before .before .before .before .before .before .before .spokes .ensures ∙ ap spokesOf (c .before .before .before .before .before .before .before .before .before .before .before .half-sizes .ensures)), c .before .before .before .before .before .before .before .before .before .before .before .before .before .before .before .before .before .pre .1)
 
 returns : tie.Need-returns
-returns c = (covered (c .before .before .before .before .before .before .before .before .before .before .before .before .before .before .before .before .before .before .before .before .before .before .before .before .args .kind) (now (c .before .before .before .before .before .before .before .before .before .before .before .before .before .before .before .before .before .before .before .before .before .before .before .before .args .flags)) (now (c .before .before .before .before .before .before .before .before .before .before .before .before .before .before .before .before .before .before .before .before .before .before .before .before .args .course)) (c .before .before .before .before .before .before .before .before .before .before .before .before .before .before .before .before .before .before .before .before .before .before .before .before .args .n) (c .before .before .before .before .before .before .before .before .before .before .before .before .before .before .before .before .before .before .before .before .before .before .before .before .args .first) (c .before .before .before .before .before .before .before .before .before .before .before .before .before .before .before .before .before .before .before .before .before .before .before .before .pre .0) (c .before .before .before .before .before .before .before .before .before .before .before .before .before .before .before .lay-course .ensures) (c .before .before .before .before .before .before .skin .ensures), c .before .before .before .before .before .before .before .before .before .before .before .before .before .before .before .lay-course .ensures)
+returns c =
+    let args = c .before .before .before .before .before .before .before .before .before .before .before .before .before .before .before .before .before .before .before .before .before .before .before .before .args in
+    (covered (args .kind) (now (args .flags)) (now (args .course)) (args .n) (args .first) (c .before .before .before .before .before .before .before .before .before .before .before .before .before .before .before .before .before .before .before .before .before .before .before .before .pre .0) (c .before .before .before .before .before .before .before .before .before .before .before .before .before .before .before .lay-course .ensures) (c .before .before .before .before .before .before .skin .ensures), c .before .before .before .before .before .before .before .before .before .before .before .before .before .before .before .lay-course .ensures)
 
 pub tube-vertices-spec : {M : Type 1} → statement M
 tube-vertices-spec =

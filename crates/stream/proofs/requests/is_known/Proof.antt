@@ -2,32 +2,18 @@ use borrow.Author.Tests.{eq-eqb, ne-eqb}
 use borrow.Author.Needs.{needs}
 use Rattle.stream.proofs.requests.is_known.Statement.{statement}
 use Rattle.stream.proofs.requests.is_known.Tie as tie
-use Rattle.stream.proofs.requests.is_known.Reads as reads
-use Rattle.stream.proofs.requests.is_known.Lts as lts
 
--- src/requests.rt:86:9
 returns : tie.Need-returns
 returns c = rw (eq-eqb _ _ (c .if1 .taken))
 
--- src/requests.rt:89:9
 returns-2 : tie.Need-returns-2
 returns-2 c = rw (ne-eqb _ _ (c .before .before .if1 .left), eq-eqb _ _ (c .if2 .taken))
 
--- src/requests.rt:93:32
-add-result : tie.Need-add-result
-add-result c = search needs
-
--- src/requests.rt:93:27
-mul-result : tie.Need-mul-result
-mul-result c = search needs
-
--- src/requests.rt:93:9
 returns-3 : tie.Need-returns-3
 returns-3 c = rw (ne-eqb _ _ (c .before .before .before .before .before .before .before .if1 .left), ne-eqb _ _ (c .before .before .before .before .before .if2 .left), eq-eqb _ _ (c .before .before .before .if3 .taken))
 
--- src/requests.rt:81:1
 returns-4 : tie.Need-returns-4
 returns-4 c = rw (ne-eqb _ _ (c .before .before .before .before .if1 .left), ne-eqb _ _ (c .before .before .if2 .left), ne-eqb _ _ (c .if3 .left))
 
 pub is-known-spec : {M : Type 1} → statement M
-is-known-spec = tie.close (tie.spec returns returns-2 add-result mul-result returns-3 returns-4)
+is-known-spec = tie.close (tie.spec returns returns-2 (λ c. search needs) (λ c. search needs) returns-3 returns-4)

@@ -16,10 +16,14 @@ loop-holds : tie.Need-loop-holds Inv-loop μ-loop
 loop-holds c = (omega arith, (omega arith, (λ a l. absurd (omega arith), λ a l m. absurd (omega arith))))
 
 loop-again : tie.Need-loop-again Inv-loop μ-loop
-loop-again c = (omega arith, (omega arith, (below-more (jobOf (c .before .before .before .before .before .before .args .b .now) (c .before .before .before .before .before .before .args .h) .serial) (c .before .before .before .before .before .before .args .h .atoms) (c .before .before .before .before .before .before .args .v) (sorted-ascends _ (c .before .before .before .before .before .before .pre .1)) _ (omega arith) (omega arith), c .before .before .before .loop .inv .1 .1 .1)))
+loop-again c =
+    let args = c .before .before .before .before .before .before .args in
+    (omega arith, (omega arith, (below-more (jobOf (args .b .now) (args .h) .serial) (args .h .atoms) (args .v) (sorted-ascends _ (c .before .before .before .before .before .before .pre .1)) _ (omega arith) (omega arith), c .before .before .before .loop .inv .1 .1 .1)))
 
 loop-again-2 : tie.Need-loop-again-2 Inv-loop μ-loop
-loop-again-2 c = (omega arith, (omega arith, (c .before .before .before .loop .inv .1 .1 .0, above-more (jobOf (c .before .before .before .before .before .before .args .b .now) (c .before .before .before .before .before .before .args .h) .serial) (c .before .before .before .before .before .before .args .h .atoms) (c .before .before .before .before .before .before .args .v) (sorted-ascends _ (c .before .before .before .before .before .before .pre .1)) _ (omega arith))))
+loop-again-2 c =
+    let args = c .before .before .before .before .before .before .args in
+    (omega arith, (omega arith, (c .before .before .before .loop .inv .1 .1 .0, above-more (jobOf (args .b .now) (args .h) .serial) (args .h .atoms) (args .v) (sorted-ascends _ (c .before .before .before .before .before .before .pre .1)) _ (omega arith))))
 
 returns : tie.Need-returns Inv-loop μ-loop
 returns c = record { few = omega arith; below = c .before .loop .inv .1 .1 .0; above = λ a l m. c .before .loop .inv .1 .1 .1 a (omega arith) m }
