@@ -11,8 +11,8 @@ use lib.Dec.{eqb}
 use lib.ListN.{length, getD, set, length-set}
 use lib.Seq.{getD-set-same, getD-set-other}
 use borrow.Author.Tests.{eqb-true, eqb-false, eq-eqb, ne-eqb}
-use Rattle.buffers.specs.Search.{last}
-use Rattle.buffers.proofs.Searches.{last-le, last-taken, last-same, last-through}
+use Rattle.lists.specs.Search.{last}
+use Rattle.lists.proofs.Searches.{last-le, last-taken, last-same, last-through}
 use Rattle.appearance.specs.Index.{slot, isKey, inSlot, Index}
 
 -- ---- a walk along a slot

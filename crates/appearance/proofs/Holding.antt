@@ -4,7 +4,7 @@ use mathlib.Core.Path.{_≡_, refl, sym, subst, _∙_}
 use mathlib.Core.List.{List, [], _∷_, _++_}
 use native.Mathlib.Omega.{arith}
 use lib.ListN.{length, set, replicate, length-replicate, getD-replicate}
-use Rattle.buffers.specs.Search.{last}
+use Rattle.lists.specs.Search.{last}
 use Rattle.appearance.specs.Index.{isKey, Index, Keyed, Holding}
 use Rattle.appearance.specs.Order.{distinct, numbered}
 use Rattle.appearance.proofs.Numbers.{found-number, number-none, number-some, keyed-seen, keyed-new}

@@ -11,8 +11,8 @@ use lib.Dec.{eqb}
 use lib.ListN.{length, getD, set, length-append, List·getD-append}
 use lib.Seq.{getD-append-seam, getD-set-same, getD-set-other}
 use borrow.Author.Tests.{eqb-true, eqb-false, eq-eqb, ne-eqb}
-use Rattle.buffers.specs.Search.{last}
-use Rattle.buffers.proofs.Searches.{last-same, last-up}
+use Rattle.lists.specs.Search.{last}
+use Rattle.lists.proofs.Searches.{last-same, last-up}
 use Rattle.appearance.specs.Order.{member, place, add, distinct, order, numbered}
 use Rattle.appearance.specs.Index.{isKey, Keyed}
 use Rattle.appearance.proofs.Laws.{member-append, member-at, member-distinct, distinct-append, place-append, place-new}

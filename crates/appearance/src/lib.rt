@@ -4,7 +4,7 @@ ghost use mathlib.Core.Path.{_≡_};
 ghost use mathlib.Core.List.{[], _∷_};
 ghost use Prim.Native.Nat.{_+_, _<_, _≤_};
 ghost use lib.ListN.{set};
-ghost use Rattle.buffers.specs.Search.{last};
+ghost use Rattle.lists.specs.Search.{last};
 ghost use Rattle.appearance.specs.Index.{slot, isKey, Index, Gains};
 
 fn slot_of(key: u64) -> usize

@@ -5,7 +5,7 @@ use vectors::put_vec;
 ghost use mathlib.Core.Path.{_≡_};
 ghost use Prim.Native.Nat.{_+_, _*_, _-_, _<_, _≤_};
 ghost use lib.ListN.{length};
-ghost use Rattle.buffers.specs.Put.{put};
+ghost use Rattle.lists.specs.Put.{put};
 ghost use Rattle.boxes.specs.Box.{lower, upper, onEach, boxOf};
 
 // The earlier of equals stays, so both tests are strict: 0.0 and -0.0 are equal and differ.

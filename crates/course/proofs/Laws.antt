@@ -10,8 +10,8 @@ use lib.Seq.{take-all, take-set-le, getD-drop, take-at, drop-at, length-take-le}
 use lib.Ieee.{Float, nan}
 use Rattle.vectors.specs.declared.Vec3.{Vec3}
 use Rattle.vectors.specs.Vec.{vadd, floats, vecAt}
-use Rattle.buffers.specs.Put.{put, upto}
-use Rattle.buffers.proofs.Puts.{turn, length-put, length-upto, getD-put-past, put-eq}
+use Rattle.lists.specs.Put.{put, upto}
+use Rattle.lists.proofs.Puts.{turn, length-put, length-upto, getD-put-past, put-eq}
 use Rattle.shape.specs.declared.Kind.{Kind}
 use Rattle.shape.specs.declared.Kind.the-variants.{Coil, Helix, Sheet}
 use Rattle.shape.specs.declared.Oxygen.{Oxygen}

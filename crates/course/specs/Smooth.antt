@@ -7,7 +7,7 @@ use lib.Dec.{ltb}
 use lib.ListN.{length}
 use lib.Ieee.{Float}
 use Rattle.vectors.specs.Vec.{floats, vecAt}
-use Rattle.buffers.specs.Put.{put, upto}
+use Rattle.lists.specs.Put.{put, upto}
 use Rattle.shape.specs.Guide.{smoothGuide, smoothPosition}
 
 -- how many vectors a flat list holds

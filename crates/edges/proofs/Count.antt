@@ -8,8 +8,8 @@ use native.Mathlib.Nat.{eq-zero-or-pos, le-of-sub-eq-zero, sub-pos-iff-lt, eq-or
 use native.Mathlib.Omega.{arith}
 use lib.Dec.{T, eqb, eqb→eq, eqb-refl}
 use lib.ListN.{length}
-use Rattle.buffers.specs.Put.{upto}
-use Rattle.buffers.proofs.Puts.{length-upto}
+use Rattle.lists.specs.Put.{upto}
+use Rattle.lists.proofs.Puts.{length-upto}
 use Rattle.edges.specs.Sound.{is, occurs}
 use Rattle.edges.specs.Tube.{next}
 

@@ -7,7 +7,7 @@ use native.Mathlib.Nat.{add-assoc}
 use native.Mathlib.Omega.{arith}
 use borrow.Author.Tests.{lt-ltb, le-ltb}
 use mathlib.Core.Logic.{⊎-elim}
-use Rattle.buffers.specs.Put.{upto}
+use Rattle.lists.specs.Put.{upto}
 use Rattle.edges.specs.Tube.{capSide, bandSide, cap, band, ring, bandAt, startCentre, endCentre, stack, tube, vertices, mesh, renumbered}
 use Rattle.edges.proofs.Count.{lt-or-le}
 

@@ -7,7 +7,7 @@ use Prim.Native.Nat.{ℕ, zero, suc, _+_, _*_, _-_, _≤_, _<_}
 use native.Mathlib.Nat.{eq-or-lt-of-le}
 use native.Mathlib.Omega.{arith}
 use lib.ListN.{length, length-append}
-use Rattle.buffers.specs.Put.{upto}
+use Rattle.lists.specs.Put.{upto}
 use Rattle.edges.specs.Sound.{is, occurs}
 use Rattle.edges.specs.Tube.{next, capSide, bandSide, cap, band, ring, bandAt, startCentre, endCentre, stack}
 use Rattle.edges.proofs.Count.{lt-or-le, is-flip, sum-cong, sum-add, sum-add₃, around, occurs-append, occurs-upto, upto-size}

@@ -4,7 +4,7 @@ use mathlib.Core.List.{List, [], _∷_}
 use Prim.Native.Nat.{ℕ, _*_}
 use lib.Dec.{eqb}
 use lib.ListN.{length, take, drop}
-use Rattle.buffers.specs.Put.{upto}
+use Rattle.lists.specs.Put.{upto}
 use Rattle.edges.specs.Tube.{rings, vertices, triangles, ring, next, cap, band, stack, tube, meshVertices, meshTriangles}
 
 -- the same numbers in the same order

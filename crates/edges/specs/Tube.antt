@@ -4,7 +4,7 @@ use mathlib.Core.Bool.{Bool, true, false, cond}
 use mathlib.Core.List.{List, [], _∷_, _++_, map}
 use Prim.Native.Nat.{ℕ, zero, suc, _+_, _*_, _-_, _%_}
 use lib.Dec.{ltb}
-use Rattle.buffers.specs.Put.{upto}
+use Rattle.lists.specs.Put.{upto}
 
 -- ---- how many
 

@@ -15,7 +15,7 @@ use Rattle.job.specs.Layout.{Whole, headOf, sizeOf}
 use borrow.Author.Tests.{eqb-true, ltb-false, not-false}
 use mathlib.Core.List.{List}
 use Rattle.job.specs.Check.{orFirst, sizes, contents, check, andThen, badVisibility, badKind, badAtom, badCoordinate}
-use Rattle.buffers.specs.Search.{first}
+use Rattle.lists.specs.Search.{first}
 
 -- a search's answer in the ladder of checks
 pub orFirst-pos : (v : ℕ) (f : ℕ → Refusal) (rest : Checked) → 0 < v → orFirst v f rest ≡ Refused (f (v - 1))

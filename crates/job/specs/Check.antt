@@ -4,7 +4,7 @@ use mathlib.Core.List.{List}
 use mathlib.Core.Bool.{Bool, cond, not, _&&_, _||_}
 use lib.ListN.{length}
 use lib.Dec.{ltb, leb, eqb}
-use Rattle.buffers.specs.Search.{first}
+use Rattle.lists.specs.Search.{first}
 use Rattle.numbers.specs.Bytes.{u8At, u16At, u64At}
 use Rattle.job.specs.Coordinate.{within}
 use Rattle.job.specs.Layout.{lengthField, versionOf, headOf, chainAt, segmentAt, atomAt, sizeOf, none}

@@ -5,7 +5,7 @@ ghost use mathlib.Core.Path.{_≡_};
 ghost use mathlib.Core.Bool.{Bool, not};
 ghost use Prim.Native.Nat.{_+_, _≤_, _<_};
 ghost use lib.ListN.{length};
-ghost use Rattle.buffers.specs.Search.{first};
+ghost use Rattle.lists.specs.Search.{first};
 ghost use Rattle.numbers.specs.Bytes.{u64At};
 ghost use Rattle.job.specs.Coordinate.{within};
 ghost use Rattle.job.specs.Refusals.{refusalNumbers};

@@ -15,7 +15,7 @@ use Rattle.job.specs.Check.{sizes, contents, check, andThen, stray, badVisibili
 use Rattle.job.specs.declared.Head.{Head}
 use Rattle.job.specs.declared.Checked.{Checked}
 use Rattle.job.specs.declared.Checked.the-variants.{Fine}
-use Rattle.buffers.proofs.Searches.{first-none}
+use Rattle.lists.proofs.Searches.{first-none}
 use Rattle.job_writer.specs.Job.{jobBytes, atomBytes}
 use Rattle.job_writer.specs.declared.JobAtom.{JobAtom}
 use Rattle.job_writer.specs.declared.JobSegment.{JobSegment}

@@ -5,7 +5,7 @@ use mathlib.Core.List.{List, [], _∷_, _++_, append-assoc}
 use native.Mathlib.Nat.{mul-suc, add-comm}
 use native.Mathlib.Omega.{arith}
 use lib.ListN.{length, replicate, length-append, length-replicate}
-use Rattle.buffers.specs.Put.{put, upto}
+use Rattle.lists.specs.Put.{put, upto}
 use Rattle.numbers.specs.Bytes.{u16, u32, u64}
 use Rattle.numbers.proofs.Laws.{seq}
 use Rattle.job_writer.specs.Job.{flat, segmentBytes, point, atomBytes, headBytes, jobBytes}

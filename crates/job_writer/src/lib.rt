@@ -6,7 +6,7 @@ use numbers::put_u64;
 ghost use mathlib.Core.Path.{_≡_};
 ghost use Prim.Native.Nat.{_+_, _*_, _<_, _≤_};
 ghost use lib.ListN.{length, replicate};
-ghost use Rattle.buffers.specs.Put.{put};
+ghost use Rattle.lists.specs.Put.{put};
 ghost use Rattle.job_writer.specs.Job.{segmentBytes, point, atomBytes, headBytes};
 
 pub struct JobAtom {

@@ -5,7 +5,7 @@ use mathlib.Core.List.{List}
 use mathlib.Core.Path.{_≡_, refl, subst}
 use native.Mathlib.Omega.{arith}
 use borrow.Author.Tests.{ltb-false}
-use Rattle.buffers.specs.Search.{first}
+use Rattle.lists.specs.Search.{first}
 use Rattle.numbers.specs.Bytes.{u8At}
 use Rattle.job.specs.Layout.{segmentAt}
 use Rattle.job.specs.Check.{sizes, badVisibility, badKind, badAtom, badCoordinate, orFirst, contents, andThen, check}

@@ -8,7 +8,7 @@ use native.Mathlib.Omega.{arith}
 use lib.ListN.{length}
 use lib.Dec.{eqb}
 use borrow.Author.Tests.{ltb-false, le-ltb, ne-eqb, not-true}
-use Rattle.buffers.specs.Search.{orElse, first, last}
+use Rattle.lists.specs.Search.{orElse, first, last}
 use Rattle.tables.specs.Job.{Job, gives, wants}
 use Rattle.tables.specs.declared.Range.{Range}
 use Rattle.tables.specs.declared.Want.the-variants.{Alpha, SegmentAlpha}

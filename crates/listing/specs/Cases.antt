@@ -8,7 +8,7 @@ use lib.ListN.{length}
 use lib.Ieee.{ofBits, ofFields, odd, le, lt, eq, round, add, sub, mul}
 use Rattle.floats.specs.Floats.{narrowed, root}
 use Rattle.vectors.specs.Vec.{vec, vsub, vdot, vlength, lit}
-use Rattle.buffers.specs.Search.{first, last}
+use Rattle.lists.specs.Search.{first, last}
 use Rattle.numbers.specs.Bytes.{u16At, u32At, u64At}
 use Rattle.job.specs.Coordinate.{within}
 use Rattle.job.specs.Check.{sizes, badVisibility, badKind, stray, badAtom, badCoordinate, contents, check}

@@ -11,8 +11,8 @@ use lib.Seq.{take-at, drop-at, getD-append-add}
 use lib.Dec.{eqb, ltb}
 use lib.Ieee.{Float, nan}
 use borrow.Author.Tests.{eqb-false, ltb-true, ltb-false}
-use Rattle.buffers.specs.Put.{put, upto}
-use Rattle.buffers.proofs.Puts.{next, length-upto}
+use Rattle.lists.specs.Put.{put, upto}
+use Rattle.lists.proofs.Puts.{next, length-upto}
 use Rattle.vectors.specs.declared.Vec3.{Vec3}
 use Rattle.vectors.specs.Vec.{vecAt}
 use Rattle.shape.specs.declared.Kind.{Kind}

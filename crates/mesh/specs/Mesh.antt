@@ -5,7 +5,7 @@ use mathlib.Core.Bool.{cond}
 use lib.ListN.{length, getD}
 use lib.Dec.{eqb}
 use lib.Ieee.{Float}
-use Rattle.buffers.specs.Put.{upto}
+use Rattle.lists.specs.Put.{upto}
 use Rattle.vectors.specs.declared.Vec3.{Vec3}
 use Rattle.vectors.specs.Vec.{vzero, floats}
 use Rattle.shape.specs.declared.Kind.{Kind}

@@ -3,7 +3,7 @@ use Prim.Native.Nat.{ℕ, _*_, _≤_, _<_}
 use mathlib.Core.List.{List, [], _∷_}
 use lib.ListN.{length, getD}
 use lib.Ieee.{Float}
-use Rattle.buffers.specs.Put.{put}
+use Rattle.lists.specs.Put.{put}
 use Rattle.vectors.specs.declared.Vec3.{Vec3}
 use Rattle.skin.specs.Tube.{tagsOf}
 use Rattle.edges.specs.Tube.{tube}

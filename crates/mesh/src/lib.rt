@@ -7,7 +7,7 @@ ghost use mathlib.Core.Path.{_≡_};
 ghost use mathlib.Core.List.{_++_, [], _∷_};
 ghost use Prim.Native.Nat.{_+_, _*_, _-_, _≤_, _<_};
 ghost use lib.ListN.{length};
-ghost use Rattle.buffers.specs.Put.{put};
+ghost use Rattle.lists.specs.Put.{put};
 ghost use Rattle.job.specs.Layout.{Whole};
 ghost use Rattle.places.specs.Places.{placeOf};
 ghost use Rattle.mesh.specs.Outs.{Room, outs, writtenBy, Atoms};

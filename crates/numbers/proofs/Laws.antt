@@ -9,8 +9,8 @@ use lib.Dec.{T}
 use lib.ListN.{length, set}
 use lib.Ieee.{Float, nan, inf, fin, binary32, toBits, ne, isNan}
 use lib.Ieee.Compare.{differs-from-itself}
-use Rattle.buffers.specs.Put.{put}
-use Rattle.buffers.proofs.Puts.{next, put3, put-at}
+use Rattle.lists.specs.Put.{put}
+use Rattle.lists.proofs.Puts.{next, put3, put-at}
 use Rattle.numbers.specs.Bytes.{u16, u32, u64}
 
 pub len16 : (n : ℕ) → length (u16 n) ≡ 2

@@ -5,7 +5,7 @@ ghost use mathlib.Core.List.{[], _∷_};
 ghost use Prim.Native.Nat.{ℕ, _+_, _*_, _≤_};
 ghost use lib.ListN.{length};
 ghost use lib.Ieee.{binary32, toBits};
-ghost use Rattle.buffers.specs.Put.{put, upto};
+ghost use Rattle.lists.specs.Put.{put, upto};
 ghost use Rattle.numbers.specs.Bytes.{u32, u32At};
 ghost use Rattle.numbers.specs.Words.{wordBytes, floatBytes, plainBytes};
 

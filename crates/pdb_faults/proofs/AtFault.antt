@@ -5,7 +5,7 @@ use mathlib.Core.Path.{_≡_, refl, sym, ap, _∙_}
 use mathlib.Core.List.{List, [], _∷_}
 use native.Mathlib.Omega.{arith}
 use lib.ListN.{length}
-use Rattle.buffers.specs.Search.{last}
+use Rattle.lists.specs.Search.{last}
 use Rattle.appearance.specs.Index.{isKey, Keyed}
 use Rattle.appearance.proofs.Numbers.{found-number, number-none}
 use Rattle.pdb_records.specs.declared.AtomLine.{AtomLine}

@@ -5,7 +5,7 @@ use mathlib.Core.Path.{_≡_, refl, sym, _∙_, subst}
 use mathlib.Core.List.{List, map}
 use native.Mathlib.Omega.{arith}
 use lib.ListN.{replicate, length-map}
-use Rattle.buffers.specs.Put.{put}
+use Rattle.lists.specs.Put.{put}
 use Rattle.job_writer.specs.Job.{flat, segmentBytes, atomBytes, headBytes}
 use Rattle.job_writer.proofs.Laws.{job-made}
 use Rattle.pdb_file.specs.Reading.{letters}

@@ -8,13 +8,13 @@ use native.Mathlib.Omega.{arith}
 use lib.Dec.{eqb}
 use lib.ListN.{length, getD, length-append, length-map}
 use borrow.Author.Tests.{eqb-true, eq-eqb, ne-eqb}
-use Rattle.buffers.specs.Put.{put}
-use Rattle.buffers.proofs.Puts.{kept, length-put, put-at, put-apart}
-use Rattle.buffers.specs.Search.{last}
+use Rattle.lists.specs.Put.{put}
+use Rattle.lists.proofs.Puts.{kept, length-put, put-at, put-apart}
+use Rattle.lists.specs.Search.{last}
 use Rattle.appearance.specs.Order.{member, place, numbered}
 use Rattle.appearance.specs.Index.{isKey, Keyed}
 use Rattle.appearance.proofs.Laws.{or-true, or-no, member-append}
-use Rattle.buffers.proofs.Searches.{last-taken}
+use Rattle.lists.proofs.Searches.{last-taken}
 use Rattle.appearance.proofs.Numbers.{found-number, number-none, number-is, number-some}
 use Rattle.job_writer.specs.Job.{flat, segmentBytes, atomBytes}
 use Rattle.job_writer.specs.declared.JobAtom.{JobAtom}

@@ -3,7 +3,7 @@ use Prim.Native.Nat.{ℕ, _<_}
 use mathlib.Core.List.{List, [], _∷_, map}
 use mathlib.Core.Path.{_≡_}
 use lib.ListN.{getD}
-use Rattle.buffers.specs.Search.{last}
+use Rattle.lists.specs.Search.{last}
 use Rattle.appearance.specs.Index.{isKey}
 use Rattle.job_writer.specs.Job.{flat, segmentBytes, atomBytes}
 use Rattle.pdb_records.specs.declared.Record.{Record}

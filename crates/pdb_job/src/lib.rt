@@ -5,7 +5,7 @@ use pdb_survey::Counts;
 ghost use mathlib.Core.Path.{_≡_};
 ghost use Prim.Native.Nat.{_≤_};
 ghost use lib.ListN.{length};
-ghost use Rattle.buffers.specs.Put.{put};
+ghost use Rattle.lists.specs.Put.{put};
 ghost use Rattle.pdb_file.specs.Reading.{atomsOf};
 ghost use Rattle.pdb_survey.specs.Tables.{Noted};
 ghost use Rattle.pdb_job.specs.Structure.{sizeOf, structureOf, pdbJob};

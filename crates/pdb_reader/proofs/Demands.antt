@@ -7,8 +7,8 @@ use native.Mathlib.Omega.{arith}
 use lib.Dec.{ltb}
 use lib.ListN.{length, take, drop, getD, length-map}
 use borrow.Author.Tests.{ltb-false}
-use Rattle.buffers.specs.Put.{put}
-use Rattle.buffers.proofs.Puts.{put-there, getD-put-past}
+use Rattle.lists.specs.Put.{put}
+use Rattle.lists.proofs.Puts.{put-there, getD-put-past}
 use Rattle.job.specs.Check.{check}
 use Rattle.job.specs.Coordinate.{within}
 use Rattle.job.specs.Refusals.{numberOf}

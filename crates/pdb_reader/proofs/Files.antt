@@ -8,7 +8,7 @@ use lib.Dec.{eqb, ltb}
 use lib.Ieee.{round, toBits}
 use lib.ListN.{length}
 use borrow.Author.Tests.{eqb-true, eqb-false, ltb-true, lt-ltb, le-ltb}
-use Rattle.buffers.specs.Put.{put}
+use Rattle.lists.specs.Put.{put}
 use Rattle.job.specs.declared.Refusal.the-variants.{PastLimits, NoJobRoom}
 use Rattle.appearance.specs.Order.{distinct, member, place}
 use Rattle.coordinates.specs.Coordinate.{coordinate, bits}

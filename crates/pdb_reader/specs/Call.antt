@@ -4,7 +4,7 @@ use mathlib.Core.List.{List}
 use mathlib.Core.Bool.{Bool, _||_, cond}
 use lib.ListN.{length}
 use lib.Dec.{ltb}
-use Rattle.buffers.specs.Put.{put}
+use Rattle.lists.specs.Put.{put}
 use Rattle.job.specs.declared.Refusal.the-variants.{ShortLine, BadNumber, AbsentResidue, PastLimits, NoJobRoom}
 use Rattle.pdb_file.specs.Faults.{faultIn}
 use Rattle.pdb_file.specs.declared.Fault.{Fault}

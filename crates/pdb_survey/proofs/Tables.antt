@@ -11,10 +11,10 @@ use lib.Dec.{eqb}
 use lib.ListN.{length, getD, set, length-set}
 use lib.Seq.{getD-set-same, getD-set-other}
 use borrow.Author.Tests.{eqb-true, eqb-false}
-use Rattle.buffers.specs.Search.{last}
+use Rattle.lists.specs.Search.{last}
 use Rattle.appearance.specs.Order.{member, order, numbered}
 use Rattle.appearance.specs.Index.{Index, Keyed, isKey}
-use Rattle.buffers.proofs.Searches.{last-taken}
+use Rattle.lists.proofs.Searches.{last-taken}
 use Rattle.appearance.proofs.Numbers.{found-number, keyed-member, keyed-number, keyed-seen, keyed-new, number-none, number-some, number-new, number-kept, number-other, count-seen, count-new}
 use Rattle.pdb_records.specs.declared.AtomLine.{AtomLine}
 use Rattle.pdb_file.specs.Reading.{names}

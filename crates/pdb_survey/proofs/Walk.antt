@@ -6,7 +6,7 @@ use mathlib.Core.List.{List, [], _∷_, _++_, append-assoc, append-nil, map-appe
 use native.Mathlib.Nat.{le-trans}
 use native.Mathlib.Omega.{arith}
 use lib.ListN.{length, getD, length-append}
-use Rattle.buffers.specs.Search.{last}
+use Rattle.lists.specs.Search.{last}
 use Rattle.appearance.specs.Order.{member}
 use Rattle.appearance.specs.Index.{isKey}
 use Rattle.appearance.proofs.Laws.{member-append, order-grows}

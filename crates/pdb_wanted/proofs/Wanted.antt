@@ -8,10 +8,10 @@ use lib.Dec.{eqb}
 use lib.ListN.{length, getD, set, replicate, length-set, length-replicate, getD-replicate}
 use lib.Seq.{getD-set-same, getD-set-other}
 use borrow.Author.Tests.{eqb-true, eqb-false, eq-eqb, ne-eqb}
-use Rattle.buffers.specs.Search.{last}
+use Rattle.lists.specs.Search.{last}
 use Rattle.appearance.specs.Order.{member}
 use Rattle.appearance.specs.Index.{Index, isKey}
-use Rattle.buffers.proofs.Searches.{last-le, last-taken}
+use Rattle.lists.proofs.Searches.{last-le, last-taken}
 use Rattle.appearance.proofs.Laws.{member-append, or-true}
 use Rattle.pdb_records.specs.declared.AtomLine.{AtomLine}
 use Rattle.pdb_records.specs.declared.Record.{Record}

@@ -4,7 +4,7 @@ use mathlib.Core.List.{List}
 use mathlib.Core.Path.{_≡_}
 use mathlib.Core.Bool.{cond}
 use lib.ListN.{length, getD}
-use Rattle.buffers.specs.Search.{last}
+use Rattle.lists.specs.Search.{last}
 use Rattle.appearance.specs.Order.{member}
 use Rattle.appearance.specs.Index.{Index, isKey}
 

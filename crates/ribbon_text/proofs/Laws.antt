@@ -9,13 +9,13 @@ use lib.Dec.{ltb}
 use lib.ListN.{length, take, getD, length-append}
 use lib.Seq.{take-suc, take-length, length-take-le}
 use borrow.Author.Tests.{ltb-true, ltb-false}
-use Rattle.buffers.specs.Put.{upto}
+use Rattle.lists.specs.Put.{upto}
 use Rattle.job.specs.Refusals.{numberOf, carried, refusalNumbers}
 use Rattle.job.specs.declared.Refusal.{Refusal}
 use Rattle.job.specs.declared.Refusal.the-variants.{BadLength, BadVersion, BadCounts, BadSize, BadVisibility, BadKind, BadAtom, BadCoordinate, NoScratch, TooManyVertices, NoRoom, ShortLine, BadNumber, AbsentResidue, PastLimits, NoJobRoom}
 use Rattle.io.specs.Counts.{Counts}
 use Rattle.io.specs.Digits.{digits, Fewest}
-use Rattle.buffers.proofs.Puts.{next}
+use Rattle.lists.proofs.Puts.{next}
 use Rattle.ribbon_text.specs.Text.{width, decimal, field, blankName, listed, Wrote}
 
 -- a list is its elements, one after the other

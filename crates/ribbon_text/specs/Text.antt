@@ -5,7 +5,7 @@ use mathlib.Core.Bool.{cond}
 use mathlib.Core.List.{List, [], _∷_, _++_}
 use lib.Dec.{ltb}
 use lib.ListN.{length}
-use Rattle.buffers.specs.Put.{put}
+use Rattle.lists.specs.Put.{put}
 use Rattle.io.specs.Digits.{digits}
 use Rattle.job.specs.Refusals.{numberOf, carried}
 use Rattle.job.specs.declared.Refusal.{Refusal}

@@ -13,7 +13,7 @@ use borrow.Author.Tests.{lt-ltb, le-ltb, ltb-true, ltb-false}
 use Rattle.job.specs.declared.Head.{Head}
 use Rattle.scratch.specs.Scratch.{Filled, Kept}
 use Rattle.job.specs.Check.{sizes}
-use Rattle.buffers.proofs.Any.{drop-same}
+use Rattle.lists.proofs.Any.{drop-same}
 use Rattle.room.specs.Room.{shortScratch, zeroed, Lent, tight}
 use Rattle.mesh.specs.Outs.{Outs, Room}
 use Rattle.room.specs.declared.Counts.{Counts}

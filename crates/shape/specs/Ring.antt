@@ -9,7 +9,7 @@ use lib.Ieee.{Float, nan, binary32, ofBits, ofInt}
 use Rattle.floats.specs.Floats.{root, greater}
 use Rattle.vectors.specs.declared.Vec3.{Vec3}
 use Rattle.vectors.specs.Vec.{vadd, vscale, normalised, lit, one, f+, f-, f*, f/}
-use Rattle.buffers.specs.Put.{upto}
+use Rattle.lists.specs.Put.{upto}
 use Rattle.shape.specs.Guide.{tiny}
 use Rattle.shape.specs.declared.Ring.{Ring}
 use Rattle.shape.specs.declared.Kind.{Kind}

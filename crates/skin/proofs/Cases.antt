@@ -9,7 +9,7 @@ use lib.Ieee.{Float, binary32, toBits, ofBits, ofFields, odd, span, climb, size,
 use Rattle.floats.specs.Floats.{root, nearestRoot, floorRoot, rootDigits, greater, absolute}
 use Rattle.vectors.specs.declared.Vec3.{Vec3}
 use Rattle.vectors.specs.Vec.{vadd, vsub, vscale, vcross, vdot, vlength, normalised, vecAt, lit, one}
-use Rattle.buffers.specs.Put.{put, upto}
+use Rattle.lists.specs.Put.{put, upto}
 use Rattle.shape.specs.declared.Kind.the-variants.{Coil, Sheet}
 use Rattle.shape.specs.declared.Oxygen.{Oxygen}
 use Rattle.shape.specs.declared.Oxygen.the-variants.{Missing}

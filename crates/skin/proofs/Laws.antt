@@ -10,8 +10,8 @@ use borrow.Author.Tests.{lt-ltb}
 use lib.Seq.{take-at, drop-at, length-take-le}
 use Rattle.vectors.specs.declared.Vec3.{Vec3}
 use Rattle.vectors.specs.Vec.{floats, vecAt}
-use Rattle.buffers.specs.Put.{put, upto}
-use Rattle.buffers.proofs.Puts.{next, turn, kept, length-upto}
+use Rattle.lists.specs.Put.{put, upto}
+use Rattle.lists.proofs.Puts.{next, turn, kept, length-upto}
 use Rattle.shape.specs.declared.Kind.{Kind}
 use Rattle.shape.specs.declared.Spoke.{Spoke}
 use Rattle.shape.specs.declared.Oxygen.{Oxygen}

@@ -9,7 +9,7 @@ use lib.ListN.{getD}
 use lib.Ieee.{Float, toBits, ofBits, ofFields, odd, span, climb, size, units, round, sum, add, sub, neg, mul, div, ofInt, lt, eq, le, isNan}
 use Rattle.floats.specs.Floats.{root, nearestRoot, floorRoot, rootDigits, greater, absolute}
 use Rattle.vectors.specs.Vec.{vadd, vsub, vscale, vcross, vdot, vlength, normalised, vecAt, lit, floats}
-use Rattle.buffers.specs.Put.{put, upto}
+use Rattle.lists.specs.Put.{put, upto}
 use Rattle.shape.specs.declared.Kind.{Kind}
 use Rattle.shape.specs.declared.Kind.the-variants.{Helix, Sheet}
 use Rattle.shape.specs.declared.Oxygen.{Oxygen}

@@ -4,7 +4,7 @@ use mathlib.Core.List.{List}
 use Prim.Native.Nat.{ℕ, _+_, _*_, _≤_, _<_, _^_}
 use lib.ListN.{length}
 use lib.Ieee.{Float}
-use Rattle.buffers.specs.Put.{put}
+use Rattle.lists.specs.Put.{put}
 use Rattle.shape.specs.declared.Kind.{Kind}
 use Rattle.shape.specs.declared.Spoke.{Spoke}
 use Rattle.shape.specs.Ring.{halfSizes, spokesOf}

@@ -5,7 +5,7 @@ use lib.ListN.{getD, replicate}
 use lib.Ieee.{Float, neg}
 use Rattle.vectors.specs.declared.Vec3.{Vec3}
 use Rattle.vectors.specs.Vec.{vsub, vscale, normalised, one, vpast, floats, vecAt}
-use Rattle.buffers.specs.Put.{upto}
+use Rattle.lists.specs.Put.{upto}
 use Rattle.shape.specs.declared.Kind.{Kind}
 use Rattle.shape.specs.declared.Oxygen.{Oxygen}
 use Rattle.course.specs.Residues.{guidesOf, pointsOf}

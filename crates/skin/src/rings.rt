@@ -7,7 +7,7 @@ ghost use mathlib.Core.List.{[], _∷_, _++_};
 ghost use Prim.Native.Nat.{_+_, _*_, _≤_};
 ghost use lib.ListN.{length, replicate};
 ghost use Rattle.vectors.specs.Vec.{floats};
-ghost use Rattle.buffers.specs.Put.{put};
+ghost use Rattle.lists.specs.Put.{put};
 ghost use Rattle.skin.specs.Tube.{eight};
 ghost use Rattle.skin.specs.Post.{Room, Wrote};
 

@@ -20,7 +20,7 @@ ghost use mathlib.Core.List.{[], _∷_, _++_};
 ghost use Prim.Native.Nat.{ℕ, _+_, _*_, _-_, _/_, _%_, _<_, _≤_};
 ghost use lib.ListN.{length, take, drop};
 ghost use Rattle.vectors.specs.Vec.{floats};
-ghost use Rattle.buffers.specs.Put.{upto};
+ghost use Rattle.lists.specs.Put.{upto};
 ghost use Rattle.course.specs.Residues.{oxygenAt, guidesOf, pointsOf};
 ghost use Rattle.course.specs.Samples.{frameAt, tagAt};
 ghost use Rattle.edges.specs.Tube.{vertexCount};

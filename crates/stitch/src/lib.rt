@@ -1,10 +1,20 @@
 // Writes the triangles of a tube into a lent buffer, in the Rust's order: start cap inward, bands, end cap.
 ghost use mathlib.Core.Path.{_≡_};
+ghost use mathlib.Core.List.{[], _∷_};
 ghost use Prim.Native.Nat.{_+_, _-_, _*_, _<_, _≤_};
 ghost use lib.ListN.{length};
-ghost use Rattle.buffers.specs.Put.{put};
+ghost use Rattle.lists.specs.Put.{put};
 ghost use Rattle.edges.specs.Tube.{vertexCount, triangleCount, capSide, cap, band, tube};
-use buffers::put_words;
+
+// The three corners of a triangle, from place at on.
+fn put_corners(out: &mut [u32], at: usize, a: u32, b: u32, c: u32)
+    requires { ⌜ at + 3 ≤ length (now out) ⌝ }
+    ensures { λ _. ⌜ now (out .exit) ≡ put (now (out .entry)) at (a ∷ b ∷ c ∷ []) ⌝ }
+{
+    out[at] = a;
+    out[at + 1] = b;
+    out[at + 2] = c;
+}
 
 // A cap's triangle at one side: this side's vertex i0 and the next side's i1, the other way round where the cap is inward.
 fn cap_side(triangles: &mut [u32], at: usize, center: u32, base: u32, k: u32, inward: bool)
@@ -15,10 +25,10 @@ fn cap_side(triangles: &mut [u32], at: usize, center: u32, base: u32, k: u32, in
     let i0 = base + k;
     let i1 = base + (k + 1) % 8;
     if inward {
-        put_words(triangles, at, center, i1, i0);
+        put_corners(triangles, at, center, i1, i0);
         return;
     }
-    put_words(triangles, at, center, i0, i1);
+    put_corners(triangles, at, center, i0, i1);
 }
 
 // The cap on the ring that begins at base.
@@ -51,8 +61,8 @@ fn append_ring_and_stitch(triangles: &mut [u32], at: usize, a: u32, b: u32)
         let a1 = a + k1;
         let b0 = b + k;
         let b1 = b + k1;
-        put_words(triangles, place, a0, b1, b0);
-        put_words(triangles, place + 3, a0, a1, b1);
+        put_corners(triangles, place, a0, b1, b0);
+        put_corners(triangles, place + 3, a0, a1, b1);
         place += 6;
         k += 1;
     }

@@ -2,7 +2,7 @@
 ghost use mathlib.Core.Path.{_≡_};
 ghost use mathlib.Core.List.{[], _∷_};
 ghost use lib.ListN.{length};
-ghost use Rattle.buffers.specs.Put.{put, upto};
+ghost use Rattle.lists.specs.Put.{put, upto};
 ghost use Rattle.stream.specs.Patterns.{wordPattern, bytePattern, floatPattern};
 
 pub fn fill_words(w: &mut [u32])

@@ -11,7 +11,7 @@ use lib.ListN.{length, getD, set, length-set}
 use lib.Seq.{getD-set-same, getD-set-other}
 use lib.Dec.{eqb}
 use borrow.Author.Tests.{eq-eqb, ne-eqb, eqb-true, eqb-false, not-true, not-false}
-use Rattle.buffers.specs.Search.{first, last, orElse}
+use Rattle.lists.specs.Search.{first, last, orElse}
 use Rattle.tables.specs.Table.{keeps}
 use Rattle.scratch.specs.Scratch.{Filled}
 use Rattle.tables.specs.Job.{Job, wants, gives, found, codeAt, chainOf}

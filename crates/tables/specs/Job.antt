@@ -4,7 +4,7 @@ use Prim.Native.Nat.{ℕ, zero, suc, _+_, _≤_}
 use mathlib.Core.List.{List}
 use mathlib.Core.Bool.{Bool, not, _&&_}
 use lib.Dec.{eqb, leb}
-use Rattle.buffers.specs.Search.{first, last}
+use Rattle.lists.specs.Search.{first, last}
 use Rattle.numbers.specs.Bytes.{u8At, u16At, u32At}
 use Rattle.job.specs.Layout.{chainAt, segmentAt, atomAt, none}
 use Rattle.job.specs.declared.Head.{Head}

@@ -6,7 +6,7 @@ ghost use mathlib.Core.Path.{_≡_};
 ghost use Prim.Native.Nat.{ℕ, _+_, _-_, _≤_, _<_};
 ghost use lib.ListN.{length, getD};
 ghost use lib.Dec.{eqb};
-ghost use Rattle.buffers.specs.Search.{last};
+ghost use Rattle.lists.specs.Search.{last};
 ghost use Rattle.job.specs.Layout.{Whole};
 ghost use Rattle.tables.specs.Job.{jobOf, inside, wants, gives, found, chainOf};
 ghost use Rattle.tables.specs.Table.{keeps};

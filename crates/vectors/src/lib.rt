@@ -3,7 +3,7 @@ ghost use mathlib.Core.Path.{_≡_};
 ghost use Prim.Native.Nat.{_+_, _*_, _≤_};
 ghost use lib.ListN.{length};
 ghost use Rattle.vectors.specs.Vec.{vadd, vsub, vscale, vdot, vcross, vlength, normalisedBy, normalised, floats, vecAt};
-ghost use Rattle.buffers.specs.Put.{put};
+ghost use Rattle.lists.specs.Put.{put};
 
 pub struct Vec3 {
     pub x: f32,

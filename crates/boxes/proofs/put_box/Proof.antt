@@ -2,7 +2,7 @@ use borrow.Author.Needs.{needs}
 use mathlib.Core.Path.{_≡_, refl}
 use Prim.Native.Nat.{_+_, _-_, _≤_}
 use native.Mathlib.Omega.{arith}
-use Rattle.buffers.proofs.Puts.{next, kept}
+use Rattle.lists.proofs.Puts.{next, kept}
 use Rattle.boxes.specs.Box.{lower, upper, over, boxOf}
 use Rattle.boxes.proofs.Laws.{over-more}
 use Rattle.boxes.proofs.put_box.Statement.{statement}

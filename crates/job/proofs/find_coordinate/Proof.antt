@@ -5,7 +5,7 @@ use native.Mathlib.Omega.{arith}
 use borrow.Author.Needs.{needs}
 use borrow.Author.Count.{below-none, below-more}
 use Rattle.job.specs.Check.{badCoordinate}
-use Rattle.buffers.proofs.Searches.{first-none, first-at}
+use Rattle.lists.proofs.Searches.{first-none, first-at}
 use Rattle.job.proofs.find_coordinate.Statement.{statement}
 use Rattle.job.proofs.find_coordinate.Tie as tie
 

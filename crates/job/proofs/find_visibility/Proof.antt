@@ -8,7 +8,7 @@ use borrow.Author.Needs.{needs}
 use borrow.Author.Count.{below-none, below-more}
 use borrow.Author.Tests.{lt-ltb, le-ltb}
 use Rattle.job.specs.Check.{badVisibility}
-use Rattle.buffers.proofs.Searches.{first-none, first-at}
+use Rattle.lists.proofs.Searches.{first-none, first-at}
 use Rattle.job.proofs.find_visibility.Statement.{statement}
 use Rattle.job.proofs.find_visibility.Tie as tie
 

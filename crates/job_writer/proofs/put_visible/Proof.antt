@@ -3,8 +3,8 @@ use mathlib.Core.Path.{_≡_, refl}
 use mathlib.Core.List.{[], _∷_}
 use native.Mathlib.Omega.{arith}
 use borrow.Author.Needs.{needs}
-use Rattle.buffers.specs.Put.{put, upto}
-use Rattle.buffers.proofs.Puts.{set-turn, kept}
+use Rattle.lists.specs.Put.{put, upto}
+use Rattle.lists.proofs.Puts.{set-turn, kept}
 use Rattle.job_writer.proofs.Laws.{upto-replicate}
 use Rattle.job_writer.proofs.put_visible.Statement.{statement}
 use Rattle.job_writer.proofs.put_visible.Tie as tie

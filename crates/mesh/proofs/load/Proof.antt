@@ -3,8 +3,8 @@ use mathlib.Core.Path.{_≡_, refl}
 use lib.ListN.{length}
 use native.Mathlib.Omega.{arith}
 use borrow.Author.Needs.{needs}
-use Rattle.buffers.specs.Put.{put, upto}
-use Rattle.buffers.proofs.Puts.{kept, turn}
+use Rattle.lists.specs.Put.{put, upto}
+use Rattle.lists.proofs.Puts.{kept, turn}
 use Rattle.places.specs.Places.{placeOf}
 use Rattle.mesh.specs.Mesh.{spotAt, spots}
 use Rattle.mesh.proofs.load.Statement.{statement}

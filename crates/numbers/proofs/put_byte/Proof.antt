@@ -1,4 +1,4 @@
-use Rattle.buffers.proofs.Puts.{put1}
+use Rattle.lists.proofs.Puts.{put1}
 use borrow.Author.Needs.{needs}
 use Rattle.numbers.proofs.put_byte.Statement.{statement}
 use Rattle.numbers.proofs.put_byte.Tie as tie

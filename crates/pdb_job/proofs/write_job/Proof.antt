@@ -1,6 +1,6 @@
 use native.Mathlib.Omega.{arith}
 use mathlib.Core.Path.{_∙_}
-use Rattle.buffers.proofs.Puts.{kept, length-put}
+use Rattle.lists.proofs.Puts.{kept, length-put}
 use Rattle.pdb_job.proofs.Counts.{not-more, within-limits, size-is, written, marks-are}
 use Rattle.pdb_job.proofs.write_job.Statement.{statement}
 use Rattle.pdb_job.proofs.write_job.Tie as tie

@@ -1,6 +1,6 @@
 use native.Mathlib.Omega.{arith}
 use mathlib.Core.Path.{refl, sym, _∙_}
-use Rattle.buffers.proofs.Puts.{kept}
+use Rattle.lists.proofs.Puts.{kept}
 use Rattle.pdb_job.proofs.Counts.{not-more, within-limits, size-is}
 use Rattle.pdb_reader.proofs.Answers.{limited, refuse-limits, refuse-room, accept}
 use borrow.Author.Needs.{needs}

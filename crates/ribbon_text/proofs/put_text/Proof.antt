@@ -3,8 +3,8 @@ use mathlib.Core.Path.{_≡_, refl, _∙_}
 use mathlib.Core.List.{[], _∷_}
 use lib.ListN.{length, getD}
 use native.Mathlib.Omega.{arith}
-use Rattle.buffers.specs.Put.{put, upto}
-use Rattle.buffers.proofs.Puts.{set-turn, kept}
+use Rattle.lists.specs.Put.{put, upto}
+use Rattle.lists.proofs.Puts.{set-turn, kept}
 use Rattle.ribbon_text.proofs.Laws.{upto-all}
 use Rattle.ribbon_text.proofs.put_text.Statement.{statement}
 use Rattle.ribbon_text.proofs.put_text.Tie as tie

@@ -1,4 +1,4 @@
-use Rattle.buffers.proofs.Puts.{kept}
+use Rattle.lists.proofs.Puts.{kept}
 use native.Mathlib.Omega.{arith}
 use Rattle.ribbon_text.proofs.Laws.{then, counts}
 use Rattle.ribbon_text.specs.Text.{totalsLine}

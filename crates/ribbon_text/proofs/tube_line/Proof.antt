@@ -2,7 +2,7 @@ use Rattle.ribbon_text.proofs.Laws.{then, counts}
 use native.Mathlib.Omega.{arith}
 use Rattle.ribbon_text.specs.Text.{tubeLine}
 use Rattle.ribbon_text.proofs.Laws.{then}
-use Rattle.buffers.proofs.Puts.{kept}
+use Rattle.lists.proofs.Puts.{kept}
 use borrow.Author.Needs.{needs}
 use Rattle.ribbon_text.proofs.tube_line.Statement.{statement}
 use Rattle.ribbon_text.proofs.tube_line.Tie as tie

@@ -2,8 +2,8 @@
 use mathlib.Core.Path.{_≡_, refl, _∙_}
 use Prim.Native.Nat.{_+_, _*_, _-_, _≤_}
 use native.Mathlib.Omega.{arith}
-use Rattle.buffers.specs.Put.{put, upto}
-use Rattle.buffers.proofs.Puts.{next, turn, kept}
+use Rattle.lists.specs.Put.{put, upto}
+use Rattle.lists.proofs.Puts.{next, turn, kept}
 use Rattle.edges.specs.Tube.{bandSide, band}
 use Rattle.edges.specs.Tube as tube
 use Rattle.stitch.proofs.append_ring_and_stitch.Statement.{statement}
@@ -34,14 +34,14 @@ add-b0 c = omega arith
 add-b1 : tie.Need-add-b1 Inv-loop μ-loop
 add-b1 c = omega arith
 
-put-words-requires : tie.Need-put-words-requires Inv-loop μ-loop
-put-words-requires c κs = omega (arith, kept _ _ _ (c .before .before .loop .inv .2))
+put-corners-requires : tie.Need-put-corners-requires Inv-loop μ-loop
+put-corners-requires c κs = omega (arith, kept _ _ _ (c .before .before .loop .inv .2))
 
-add-put-words : tie.Need-add-put-words Inv-loop μ-loop
-add-put-words c = omega (arith, kept _ _ _ (c .before .before .before .before .before .before .loop .inv .2))
+add-put-corners : tie.Need-add-put-corners Inv-loop μ-loop
+add-put-corners c = omega (arith, kept _ _ _ (c .before .before .before .before .before .before .loop .inv .2))
 
-put-words-requires-2 : tie.Need-put-words-requires-2 Inv-loop μ-loop
-put-words-requires-2 c κs = omega (arith, kept _ _ _ (c .before .before .before .put-words .ensures), kept _ _ _ (c .before .before .before .before .before .before .loop .inv .2))
+put-corners-requires-2 : tie.Need-put-corners-requires-2 Inv-loop μ-loop
+put-corners-requires-2 c κs = omega (arith, kept _ _ _ (c .before .before .before .put-corners .ensures), kept _ _ _ (c .before .before .before .before .before .before .loop .inv .2))
 
 add-place : tie.Need-add-place Inv-loop μ-loop
 add-place c = omega (arith, kept _ _ _ (c .before .before .before .before .before .before .before .before .before .loop .inv .2))
@@ -56,7 +56,7 @@ loop-again : tie.Need-loop-again Inv-loop μ-loop
 unfolding tube.next
 loop-again c = let loop = c .before .before .before .before .before .before .before .before .before .loop in
     let args = c .before .before .before .before .before .before .before .before .before .before .before .args in
-    let side = next _ _ (loop .place) _ _ _ (c .before .before .put-words2 .ensures) (c .before .before .before .before .before .before .put-words .ensures) refl in
+    let side = next _ _ (loop .place) _ _ _ (c .before .before .put-corners2 .ensures) (c .before .before .before .before .before .before .put-corners .ensures) refl in
     (omega arith, omega arith, turn (bandSide 8 (args .a) (args .b)) 6 (λ k. refl) _ _ _ (loop .k) side (loop .inv .2) (loop .inv .1))
 
 same-length : tie.Need-same-length Inv-loop μ-loop
@@ -79,9 +79,9 @@ append-ring-and-stitch-spec =
     add-a1
     add-b0
     add-b1
-    put-words-requires
-    add-put-words
-    put-words-requires-2
+    put-corners-requires
+    add-put-corners
+    put-corners-requires-2
     add-place
     add-k
     loop-less

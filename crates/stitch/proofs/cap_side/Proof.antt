@@ -7,11 +7,11 @@ use Rattle.stitch.proofs.cap_side.Tie as tie
 
 returns : tie.Need-returns
 unfolding next
-returns c = (c .before .before .put-words .ensures) ∙ rw (c .before .before .before .before .if1 .taken)
+returns c = (c .before .before .put-corners .ensures) ∙ rw (c .before .before .before .before .if1 .taken)
 
 returns-2 : tie.Need-returns-2
 unfolding next
-returns-2 c = (c .before .before .put-words2 .ensures) ∙ rw (c .before .before .before .before .if1 .left)
+returns-2 c = (c .before .before .put-corners2 .ensures) ∙ rw (c .before .before .before .before .if1 .left)
 
 pub cap-side-spec : {M : Type 1} → statement M
 cap-side-spec =

@@ -2,8 +2,8 @@
 use mathlib.Core.Path.{_≡_, refl, _∙_}
 use Prim.Native.Nat.{_+_, _*_, _-_, _≤_}
 use native.Mathlib.Omega.{arith}
-use Rattle.buffers.specs.Put.{put, upto}
-use Rattle.buffers.proofs.Puts.{turn, kept}
+use Rattle.lists.specs.Put.{put, upto}
+use Rattle.lists.proofs.Puts.{turn, kept}
 use Rattle.edges.specs.Tube.{capSide, cap}
 use Rattle.edges.proofs.Stack.{cap-side-size}
 use Rattle.stitch.proofs.emit_cap.Statement.{statement}

@@ -4,8 +4,8 @@ use Prim.Native.Nat.{suc, _+_, _*_, _-_, _≤_}
 use native.Mathlib.Numerals.{add-one}
 use native.Mathlib.Omega.{arith}
 use borrow.Author.Needs.{needs}
-use Rattle.buffers.specs.Put.{put, upto}
-use Rattle.buffers.proofs.Puts.{turn, kept}
+use Rattle.lists.specs.Put.{put, upto}
+use Rattle.lists.proofs.Puts.{turn, kept}
 use Rattle.edges.specs.Tube.{ring, band, bandAt}
 use Rattle.edges.proofs.Theorems.{vertex-count, triangle-count}
 use Rattle.edges.proofs.Stack.{band-size}

@@ -3,8 +3,8 @@ use mathlib.Core.Path.{_≡_, refl, _∙_}
 use Prim.Native.Nat.{_+_, _*_, _-_, _≤_}
 use native.Mathlib.Omega.{arith}
 use lib.ListN.{take, drop}
-use Rattle.buffers.specs.Put.{put, upto}
-use Rattle.buffers.proofs.Puts.{kept}
+use Rattle.lists.specs.Put.{put, upto}
+use Rattle.lists.proofs.Puts.{kept}
 use Rattle.course.specs.Residues.{oxygenAt, rawAt, signedAt, signedPiece}
 use Rattle.course.proofs.Laws.{raw-still, signed-put, signed-step, signed-whole}
 use Rattle.course.proofs.residues.signed_guides.Statement.{statement}

@@ -2,8 +2,8 @@ use borrow.Author.Needs.{needs}
 use mathlib.Core.Path.{_≡_, refl}
 use Prim.Native.Nat.{_-_, _≤_}
 use native.Mathlib.Omega.{arith}
-use Rattle.buffers.specs.Put.{put, upto}
-use Rattle.buffers.proofs.Puts.{kept}
+use Rattle.lists.specs.Put.{put, upto}
+use Rattle.lists.proofs.Puts.{kept}
 use Rattle.vectors.specs.Vec.{vecAt}
 use Rattle.course.specs.Smooth.{guidePiece, guidePass}
 use Rattle.course.proofs.Laws.{whole, guide-step}

@@ -2,8 +2,8 @@ use Prim.Native.Nat.{ℕ, _≤_, _-_}
 use mathlib.Core.Path.{_≡_, refl, _∙_}
 use lib.ListN.{length, getD}
 use native.Mathlib.Omega.{arith}
-use Rattle.buffers.specs.Put.{put, upto}
-use Rattle.buffers.proofs.Puts.{set-turn, kept}
+use Rattle.lists.specs.Put.{put, upto}
+use Rattle.lists.proofs.Puts.{set-turn, kept}
 use Rattle.numbers.specs.Words.{plainBytes}
 use Rattle.numbers.proofs.words.put_bytes.Statement.{statement}
 use Rattle.numbers.proofs.words.put_bytes.Tie as tie

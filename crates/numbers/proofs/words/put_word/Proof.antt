@@ -1,5 +1,5 @@
 use mathlib.Core.Path.{ap, _∙_}
-use Rattle.buffers.specs.Put.{put}
+use Rattle.lists.specs.Put.{put}
 use Rattle.numbers.proofs.Laws.{put4, word-bytes}
 use native.Mathlib.Omega.{arith}
 use lib.ListN.{length-set}

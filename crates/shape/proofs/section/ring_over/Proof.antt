@@ -4,8 +4,8 @@ use mathlib.Core.List.{[], _∷_}
 use Prim.Native.Nat.{ℕ, _≤_, _-_}
 use native.Mathlib.Omega.{arith}
 use lib.ListN.{getD}
-use Rattle.buffers.specs.Put.{put, upto}
-use Rattle.buffers.proofs.Puts.{set-turn}
+use Rattle.lists.specs.Put.{put, upto}
+use Rattle.lists.proofs.Puts.{set-turn}
 use Rattle.shape.specs.Ring.{pointOn, normalOn, spokePast, ringOver}
 use Rattle.shape.proofs.section.ring_over.Statement.{statement}
 use Rattle.shape.proofs.section.ring_over.Tie as tie

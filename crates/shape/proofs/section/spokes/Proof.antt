@@ -3,8 +3,8 @@ use mathlib.Core.Path.{_≡_, refl}
 use mathlib.Core.List.{[], _∷_}
 use Prim.Native.Nat.{ℕ, _≤_, _-_}
 use native.Mathlib.Omega.{arith}
-use Rattle.buffers.specs.Put.{put, upto}
-use Rattle.buffers.proofs.Puts.{set-turn}
+use Rattle.lists.specs.Put.{put, upto}
+use Rattle.lists.proofs.Puts.{set-turn}
 use Rattle.shape.specs.Ring.{spokeAt, spokesOf}
 use Rattle.shape.proofs.section.spokes.Statement.{statement}
 use Rattle.shape.proofs.section.spokes.Tie as tie

@@ -4,8 +4,8 @@ use Prim.Native.Nat.{ℕ, _≤_, _-_}
 use native.Mathlib.Omega.{arith}
 use lib.ListN.{getD}
 use Rattle.vectors.specs.Vec.{floats, vpast}
-use Rattle.buffers.specs.Put.{put, upto}
-use Rattle.buffers.proofs.Puts.{turn, kept}
+use Rattle.lists.specs.Put.{put, upto}
+use Rattle.lists.proofs.Puts.{turn, kept}
 use Rattle.skin.specs.Tube.{eight}
 use Rattle.skin.proofs.rings.put_eight.Statement.{statement}
 use Rattle.skin.proofs.rings.put_eight.Tie as tie

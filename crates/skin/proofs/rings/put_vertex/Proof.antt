@@ -1,4 +1,4 @@
-use Rattle.buffers.proofs.Puts.{put1}
+use Rattle.lists.proofs.Puts.{put1}
 use borrow.Author.Needs.{needs}
 use Rattle.skin.proofs.rings.put_vertex.Statement.{statement}
 use Rattle.skin.proofs.rings.put_vertex.Tie as tie

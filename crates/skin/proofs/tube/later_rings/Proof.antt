@@ -3,8 +3,8 @@ use mathlib.Core.Path.{_≡_, refl, ap}
 use Prim.Native.Nat.{ℕ, _≤_, _-_, _+_, _*_, _%_}
 use native.Mathlib.Omega.{arith}
 use denote.Ref.{now}
-use Rattle.buffers.specs.Put.{put, upto}
-use Rattle.buffers.proofs.Puts.{kept}
+use Rattle.lists.specs.Put.{put, upto}
+use Rattle.lists.proofs.Puts.{kept}
 use Rattle.skin.specs.Post.{Wrote}
 use Rattle.skin.specs.Tube.{ringPositions, ringNormals, ringTags}
 use Rattle.skin.proofs.Laws.{wrote-more, room, length-positions, length-normals, length-tags}

@@ -4,8 +4,8 @@ use mathlib.Core.Path.{_≡_, refl, _∙_}
 use mathlib.Core.List.{[], _∷_}
 use lib.ListN.{length}
 use native.Mathlib.Omega.{arith}
-use Rattle.buffers.specs.Put.{put, upto}
-use Rattle.buffers.proofs.Puts.{set-turn, kept}
+use Rattle.lists.specs.Put.{put, upto}
+use Rattle.lists.proofs.Puts.{set-turn, kept}
 use Rattle.stream.specs.Patterns.{floatPattern}
 use Rattle.stream.proofs.patterns.fill_floats.Statement.{statement}
 use Rattle.stream.proofs.patterns.fill_floats.Tie as tie

@@ -3,7 +3,7 @@ use mathlib.Core.Path.{_≡_, refl, _∙_}
 use lib.ListN.{length, length-take, length-drop}
 use native.Mathlib.Omega.{arith}
 use borrow.Author.Needs.{needs}
-use Rattle.buffers.proofs.Puts.{kept}
+use Rattle.lists.proofs.Puts.{kept}
 use Rattle.stream.specs.Sinks.{Ready}
 use Rattle.stream.proofs.sink.send_words.Statement.{statement}
 use Rattle.stream.proofs.sink.send_words.Tie as tie

@@ -1,9 +1,9 @@
 use native.Mathlib.Omega.{arith}
 use lib.ListN.{length-set}
-use Rattle.buffers.proofs.Puts.{put3}
+use Rattle.lists.proofs.Puts.{put3}
 use borrow.Author.Needs.{needs}
-use Rattle.buffers.proofs.put_words.Statement.{statement}
-use Rattle.buffers.proofs.put_words.Tie as tie
+use Rattle.stitch.proofs.put_corners.Statement.{statement}
+use Rattle.stitch.proofs.put_corners.Tie as tie
 
 slice-write-out-2 : tie.Need-slice-write-out-2
 slice-write-out-2 c = simp length-set (omega arith)
@@ -14,8 +14,8 @@ slice-write-out-3 c = simp length-set (omega arith)
 returns : tie.Need-returns
 returns c = put3 _ _ _ _ _
 
-pub put-words-spec : {M : Type 1} → statement M
-put-words-spec =
+pub put-corners-spec : {M : Type 1} → statement M
+put-corners-spec =
     tie.close
     (tie.spec
     (λ c. search needs)

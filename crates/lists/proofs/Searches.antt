@@ -6,7 +6,7 @@ use mathlib.Core.Logic.{⊎-elim}
 use native.Mathlib.Nat.{eq-or-lt-of-le, le-of-suc-le-suc}
 use native.Mathlib.Numerals.{add-one}
 use native.Mathlib.Omega.{arith}
-use Rattle.buffers.specs.Search.{orElse, first, last}
+use Rattle.lists.specs.Search.{orElse, first, last}
 
 -- ---- the first number below n that a test takes
 -- none is taken

@@ -7,7 +7,7 @@ use native.Mathlib.Numerals.{add-one}
 use native.Mathlib.Omega.{arith}
 use lib.ListN.{length, take, drop, set, getD, length-append, length-set}
 use lib.Seq.{sets, sets-eq, getD-set-other, getD-set-same, length-take-le, set-comm, take-append-seam, drop-at}
-use Rattle.buffers.specs.Put.{put, upto}
+use Rattle.lists.specs.Put.{put, upto}
 
 module _ {ℓ} {A : Type ℓ} where
   pub length-put : (l : List A) (i : ℕ) (xs : List A) → length (put l i xs) ≡ length l
