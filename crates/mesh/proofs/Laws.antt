@@ -18,8 +18,8 @@ use Rattle.vectors.specs.Vec.{vecAt}
 use Rattle.shape.specs.declared.Kind.{Kind}
 use Rattle.shape.specs.declared.Kind.the-variants.{Sheet}
 use Rattle.shape.specs.declared.Oxygen.the-variants.{At, Missing}
-use Rattle.course.specs.Residues.{oxygenAt}
-use Rattle.course.proofs.Laws.{put-all}
+use Rattle.curve.specs.Residues.{oxygenAt}
+use Rattle.curve.proofs.Laws.{put-all}
 use Rattle.skin.specs.Tube.{positionsOf, normalsOf, tagsOf}
 use Rattle.boxes.specs.Box.{boxOf}
 use Rattle.skin.specs.Post.{Wrote}

@@ -16,9 +16,9 @@ use Rattle.shape.specs.declared.Oxygen.the-variants.{Missing}
 use Rattle.shape.specs.Spline.{bend, twist, catmullRom, catmullRomTangent}
 use Rattle.shape.specs.Guide.{fallbackPerp, across, upright, computeGuide, rawGuide, orUp, tangentOf, directed, agreeing, weighted, smoothGuide, smoothPosition, between}
 use Rattle.shape.specs.Ring.{cosBits, sinBits, cosAt, sinAt, halfSizes, inArrow, arrow, profileOf, steep, spokeAt, spokesOf, pointOn, normalOn, ringOver, crossSection}
-use Rattle.course.specs.Smooth.{guidePass, positionPass, repeated, smoothGuides, smoothPositions}
-use Rattle.course.specs.Residues.{tangentAt, rawAt, signedAt, signed, sumOf, same, settled, guidesOf, pointsOf}
-use Rattle.course.specs.Samples.{sampleCount, spanOf, spanAt, paramAt, frameOf, frameAt, ringAt, tagAt}
+use Rattle.curve.specs.Smooth.{guidePass, positionPass, repeated, smoothGuides, smoothPositions}
+use Rattle.curve.specs.Residues.{tangentAt, rawAt, signedAt, signed, sumOf, same, settled, guidesOf, pointsOf}
+use Rattle.curve.specs.Samples.{sampleCount, spanOf, spanAt, paramAt, frameOf, frameAt, ringAt, tagAt}
 use Rattle.skin.specs.Tube.{ordered, eight, ringPositions, ringNormals, ringTags, startNormal, endNormal, skinPositions, skinNormals, positionsOf, normalsOf, tagsOf}
 
 -- two lists of words are the same

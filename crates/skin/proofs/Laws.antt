@@ -17,10 +17,10 @@ use Rattle.shape.specs.declared.Spoke.{Spoke}
 use Rattle.shape.specs.declared.Oxygen.{Oxygen}
 use Rattle.shape.specs.Ring.{halfSizes, spokesOf}
 use Rattle.shape.specs.Guide.{between}
-use Rattle.course.specs.declared.Frame.{Frame}
-use Rattle.course.specs.Samples.{spanOf, spanAt, paramAt, frameOf, frameAt}
-use Rattle.course.specs.Residues.{oxygenAt, guidesOf, pointsOf}
-use Rattle.course.proofs.Laws.{rest, length-guides-of, length-points-of}
+use Rattle.curve.specs.declared.Frame.{Frame}
+use Rattle.curve.specs.Samples.{spanOf, spanAt, paramAt, frameOf, frameAt}
+use Rattle.curve.specs.Residues.{oxygenAt, guidesOf, pointsOf}
+use Rattle.curve.proofs.Laws.{rest, length-guides-of, length-points-of}
 use Rattle.edges.specs.Tube.{vertexCount}
 use Rattle.edges.proofs.Theorems.{vertex-count}
 use Rattle.skin.specs.Post.{Room, Wrote, Course, Residues}

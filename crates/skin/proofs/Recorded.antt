@@ -17,9 +17,9 @@ use Rattle.shape.specs.declared.Oxygen.the-variants.{At, Missing}
 use Rattle.shape.specs.Spline.{bend, twist, catmullRom, catmullRomTangent}
 use Rattle.shape.specs.Guide.{fallbackPerp, across, upright, computeGuide, rawGuide, orUp, tangentOf, directed, agreeing, weighted, smoothGuide, smoothPosition, between}
 use Rattle.shape.specs.Ring.{cosBits, sinBits, cosAt, sinAt, halfSizes, inArrow, arrow, profileOf, steep, spokeAt, spokesOf, pointOn, normalOn, ringOver, crossSection}
-use Rattle.course.specs.Smooth.{guidePass, positionPass, repeated, smoothGuides, smoothPositions}
-use Rattle.course.specs.Residues.{tangentAt, rawAt, signedAt, signed, sumOf, same, settled, guidesOf, pointsOf}
-use Rattle.course.specs.Samples.{spanOf, spanAt, paramAt, frameOf, frameAt, ringAt}
+use Rattle.curve.specs.Smooth.{guidePass, positionPass, repeated, smoothGuides, smoothPositions}
+use Rattle.curve.specs.Residues.{tangentAt, rawAt, signedAt, signed, sumOf, same, settled, guidesOf, pointsOf}
+use Rattle.curve.specs.Samples.{spanOf, spanAt, paramAt, frameOf, frameAt, ringAt}
 use Rattle.skin.specs.Tube.{ordered, eight, ringPositions, ringNormals, startNormal, endNormal, skinPositions, skinNormals}
 use Rattle.skin.proofs.Cases.{alike, words}
 

@@ -8,8 +8,8 @@ use Rattle.vectors.specs.Vec.{vsub, vscale, normalised, one, vpast, floats, vec
 use Rattle.lists.specs.Put.{upto}
 use Rattle.shape.specs.declared.Kind.{Kind}
 use Rattle.shape.specs.declared.Oxygen.{Oxygen}
-use Rattle.course.specs.Residues.{guidesOf, pointsOf}
-use Rattle.course.specs.Samples.{frameAt, ringAt, tagAt}
+use Rattle.curve.specs.Residues.{guidesOf, pointsOf}
+use Rattle.curve.specs.Samples.{frameAt, ringAt, tagAt}
 
 -- 01: 'Vertices: ring, start centre, later rings, end centre'
 unfoldable pub ordered : {A : Type 0} → ℕ → (ℕ → List A) → List A → List A → List A

@@ -1,13 +1,13 @@
 // The vertices of one tube: a capped ring, the rings between, and a capped ring.
 use crate::rings::put_capped;
 use crate::rings::put_ring;
-use course::residues::lay_course;
-use course::samples::frame;
-use course::samples::frame_at;
-use course::samples::param_at;
-use course::samples::ring;
-use course::samples::span;
-use course::samples::tag_at;
+use curve::residues::lay_course;
+use curve::samples::frame;
+use curve::samples::frame_at;
+use curve::samples::param_at;
+use curve::samples::ring;
+use curve::samples::span;
+use curve::samples::tag_at;
 use shape::Kind;
 use shape::Spoke;
 use shape::guides::between;
@@ -21,8 +21,8 @@ ghost use Prim.Native.Nat.{ℕ, _+_, _*_, _-_, _/_, _%_, _<_, _≤_};
 ghost use lib.ListN.{length, take, drop};
 ghost use Rattle.vectors.specs.Vec.{floats};
 ghost use Rattle.lists.specs.Put.{upto};
-ghost use Rattle.course.specs.Residues.{oxygenAt, guidesOf, pointsOf};
-ghost use Rattle.course.specs.Samples.{frameAt, tagAt};
+ghost use Rattle.curve.specs.Residues.{oxygenAt, guidesOf, pointsOf};
+ghost use Rattle.curve.specs.Samples.{frameAt, tagAt};
 ghost use Rattle.edges.specs.Tube.{vertexCount};
 ghost use Rattle.skin.specs.Tube.{ringPositions, ringNormals, ringTags, startNormal, endNormal, skinPositions, skinNormals, positionsOf, normalsOf, tagsOf};
 ghost use Rattle.skin.specs.Post.{Room, Wrote, Course, Residues};
@@ -240,7 +240,7 @@ fn skin(
     );
 }
 
-// One tube, from vertex v on. `course` holds 6n floats: on entry n C-alphas and then n oxygens, with a flag for each that is not 0 where there
+// One tube, from vertex v on. `curve` holds 6n floats: on entry n C-alphas and then n oxygens, with a flag for each that is not 0 where there
 // is one; on exit n spline points and then n guides.
 pub fn tube_vertices(
     flags: &[u32],

@@ -1,5 +1,5 @@
 use borrow.Author.Needs.{needs}
-use Rattle.course.specs.Samples.{ringAt}
+use Rattle.curve.specs.Samples.{ringAt}
 use Rattle.skin.specs.Tube.{ringPositions, ringNormals, ringTags}
 use Rattle.skin.proofs.tube.end_cap.Statement.{statement}
 use Rattle.skin.proofs.tube.end_cap.Tie as tie

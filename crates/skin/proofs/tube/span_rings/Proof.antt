@@ -5,7 +5,7 @@ use native.Mathlib.Omega.{arith}
 use denote.Ref.{now}
 use Rattle.lists.specs.Put.{put, upto}
 use Rattle.lists.proofs.Puts.{kept}
-use Rattle.course.specs.Samples.{ringAt}
+use Rattle.curve.specs.Samples.{ringAt}
 use Rattle.skin.specs.Post.{Wrote}
 use Rattle.skin.specs.Tube.{ringPositions, ringNormals, ringTags}
 use Rattle.skin.proofs.Laws.{wrote-turn, room, on-span, length-positions, length-normals, length-tags}

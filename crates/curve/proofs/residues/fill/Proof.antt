@@ -1,0 +1,49 @@
+use borrow.Author.Needs.{needs}
+use mathlib.Core.Path.{_≡_, refl}
+use Prim.Native.Nat.{ℕ, _-_, _≤_}
+use native.Mathlib.Omega.{arith}
+use Rattle.lists.specs.Put.{put, upto}
+use Rattle.lists.proofs.Puts.{turn, kept}
+use Rattle.vectors.specs.Vec.{floats}
+use Rattle.curve.specs.Residues.{same}
+use Rattle.curve.proofs.Laws.{whole}
+use Rattle.curve.proofs.residues.fill.Statement.{statement}
+use Rattle.curve.proofs.residues.fill.Tie as tie
+
+abbrev Inv-loop : tie.InvT-loop
+Inv-loop g₀ n v i₀ g i = (i ≤ n) × (g ≡ put g₀ 0 (upto (λ (j : ℕ). floats v) i))
+
+abbrev μ-loop : tie.MeasureT-loop
+μ-loop g₀ n v i₀ g i = n - i
+
+loop-holds : tie.Need-loop-holds Inv-loop μ-loop
+unfolding put upto
+loop-holds c = (omega arith, refl)
+
+put-vec-requires : tie.Need-put-vec-requires Inv-loop μ-loop
+put-vec-requires c κs = omega (arith, kept _ _ _ (c .before .before .loop .inv .1))
+
+loop-again : tie.Need-loop-again Inv-loop μ-loop
+loop-again c = (omega arith, turn _ 3 (λ _. refl) _ 0 _ (c .before .before .before .before .before .loop .i) (c .before .before .put-vec .ensures) (c .before .before .before .before .before .loop .inv .1) (omega arith))
+
+same-length : tie.Need-same-length Inv-loop μ-loop
+same-length c = kept _ _ _ (c .before .loop .inv .1)
+
+returns : tie.Need-returns Inv-loop μ-loop
+unfolding same
+returns c = whole _ _ (c .before .loop .i) _ (λ _. refl) (c .before .loop .inv .1) (search needs) (omega arith)
+
+pub fill-spec : {M : Type 1} → statement M
+fill-spec =
+    tie.close
+    (tie.spec
+    Inv-loop
+    μ-loop
+    loop-holds
+    (λ c. search needs)
+    put-vec-requires
+    (λ c. search needs)
+    (λ c. search needs)
+    loop-again
+    same-length
+    returns)
