@@ -9,7 +9,7 @@ use Rattle.edges.specs.Cases.{givesRings, gives, trianglesFrom}
 use Rattle.skin.proofs.Cases.{halfIs, tagsAre, firstIs}
 use Rattle.tubes.specs.Tubes.{Tube}
 use Rattle.tubes.specs.declared.Source.the-variants.{Coils, Segment}
-use Rattle.listing.specs.Cases.{empty, six, two, givesTubes, cuts}
+use Rattle.tube_theorems.specs.Cases.{empty, six, two, givesTubes, cuts}
 use Rattle.room.specs.Room.{Lent}
 use Rattle.starred.specs.Answers.{roomFor, builds, plans}
 

@@ -17,9 +17,9 @@ use Rattle.tubes.proofs.Laws.{chosen-length}
 use Rattle.coils.proofs.Laws.{extended-few}
 use Rattle.edges.proofs.Theorems.{vertex-count, triangle-count}
 use Rattle.mesh.specs.Mesh.{sizeOf, vertexSum, triangleSum}
-use Rattle.listing.specs.Listing.{Every, frameSum, EachList}
-use Rattle.listing.proofs.Linked.{linked-from, pieces-linked}
-use Rattle.listing.proofs.Tubes.{each-map}
+use Rattle.tube_theorems.specs.Listing.{Every, frameSum, EachList}
+use Rattle.tube_theorems.proofs.Linked.{linked-from, pieces-linked}
+use Rattle.tube_theorems.proofs.Tubes.{each-map}
 
 -- ---- frames
 

@@ -14,7 +14,7 @@ use Rattle.tables.specs.declared.Range.{Range}
 use Rattle.tables.specs.declared.Want.the-variants.{Alpha, SegmentAlpha}
 use Rattle.tubes.specs.Tubes.{range, coilAlpha, segmentAlpha, frames, counts, any, covered}
 use Rattle.tubes.proofs.Laws.{given-above}
-use Rattle.listing.proofs.Tubes.{and-left, and-right}
+use Rattle.tube_theorems.proofs.Tubes.{and-left, and-right}
 
 -- a number below n that the test takes
 abbrev pub Some : (ℕ → Bool) → ℕ → Type 0

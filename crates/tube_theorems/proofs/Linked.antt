@@ -9,7 +9,7 @@ use lib.ListN.{length, getD}
 use Rattle.tubes.specs.Lists.{Each}
 use Rattle.tubes.specs.Pieces.{glue, pieces}
 use Rattle.tubes.specs.Tubes.{leads, extended}
-use Rattle.listing.specs.Listing.{Neighbours, EachList}
+use Rattle.tube_theorems.specs.Listing.{Neighbours, EachList}
 
 -- S between x and the first of a list
 abbrev pub Next : (ℕ → ℕ → Type 0) → ℕ → List ℕ → Type 0

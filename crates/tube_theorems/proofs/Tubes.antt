@@ -17,8 +17,8 @@ use Rattle.tubes.specs.declared.Source.{Source}
 use Rattle.tubes.specs.declared.Source.the-variants.{Coils, Segment}
 use Rattle.tubes.proofs.Laws.{uncut-consecutive, uncut-chain, chosen-below, chosen-true, given-above}
 use Rattle.mesh.specs.Mesh.{sizeOf}
-use Rattle.listing.specs.Listing.{Known, Proper, EachList, Every}
-use Rattle.listing.proofs.Linked.{Linked, linked-each, linked-neighbours, linked-from, linked-weak, pieces-linked, extended-linked}
+use Rattle.tube_theorems.specs.Listing.{Known, Proper, EachList, Every}
+use Rattle.tube_theorems.proofs.Linked.{Linked, linked-each, linked-neighbours, linked-from, linked-weak, pieces-linked, extended-linked}
 
 -- ---- P of every tube of a list
 

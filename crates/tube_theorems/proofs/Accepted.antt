@@ -14,7 +14,7 @@ use Rattle.job.specs.declared.Refusal.{Refusal}
 use Rattle.job.specs.declared.Refusal.the-variants.{BadVisibility, BadKind, BadAtom, BadCoordinate}
 use Rattle.job.specs.declared.Checked.{Checked}
 use Rattle.job.specs.declared.Checked.the-variants.{Fine, Refused}
-use Rattle.listing.proofs.Ends.{some-first}
+use Rattle.tube_theorems.proofs.Ends.{some-first}
 
 -- no chain, segment or atom is at fault
 pub record Accepted (s : List ℕ) (h : Head) : Type 0 where

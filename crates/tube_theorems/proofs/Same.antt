@@ -10,9 +10,9 @@ use Rattle.tubes.specs.Tubes.{Tube, frames, gap, runTubes, segmentTubes, joined
 use Rattle.tubes.specs.declared.Source.{Source}
 use Rattle.tubes.specs.declared.Source.the-variants.{Coils, Segment}
 use Rattle.tubes.proofs.Laws.{pieces-ext}
-use Rattle.listing.specs.Listing.{Neighbours, EachList, coilRuns, SameCuts}
-use Rattle.listing.proofs.Linked.{linked-from, linked-neighbours, pieces-linked}
-use Rattle.listing.proofs.Tubes.{each-map}
+use Rattle.tube_theorems.specs.Listing.{Neighbours, EachList, coilRuns, SameCuts}
+use Rattle.tube_theorems.proofs.Linked.{linked-from, linked-neighbours, pieces-linked}
+use Rattle.tube_theorems.proofs.Tubes.{each-map}
 
 runs-same : (source : Source) (kind : ℕ) (c d : ℕ → ℕ → Bool) (rs : List (List ℕ)) → EachList (Neighbours (λ x y. c x y ≡ d x y)) rs
     → runTubes source kind c rs ≡ runTubes source kind d rs

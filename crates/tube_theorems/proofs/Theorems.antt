@@ -16,13 +16,13 @@ use Rattle.tubes.specs.declared.Source.{Source}
 use Rattle.tubes.specs.declared.Source.the-variants.{Coils, Segment}
 use Rattle.tubes.specs.Tubes.{Tube, given, shown, coilAlpha, segmentAlpha, frames, counts, covered, joins, segmentTubes, coilTubes, tubes}
 use Rattle.mesh.specs.Mesh.{sizeOf, vertexSum, triangleSum}
-use Rattle.listing.specs.Listing.{Known, Proper, Before, Every, InOrder, frameSum, SameCuts}
-use Rattle.listing.proofs.Tubes.{every-map, every-member, tubes-proper}
-use Rattle.listing.proofs.Order.{all-order, all-once}
-use Rattle.listing.proofs.Sums.{segment-sum, coils-sum, tubes-frames, vertices-exact, triangles-exact, tubes-few}
-use Rattle.listing.proofs.Ends.{covered-any, segment-placed, covered-some}
-use Rattle.listing.proofs.Accepted.{kind-few}
-use Rattle.listing.proofs.Same.{all-same}
+use Rattle.tube_theorems.specs.Listing.{Known, Proper, Before, Every, InOrder, frameSum, SameCuts}
+use Rattle.tube_theorems.proofs.Tubes.{every-map, every-member, tubes-proper}
+use Rattle.tube_theorems.proofs.Order.{all-order, all-once}
+use Rattle.tube_theorems.proofs.Sums.{segment-sum, coils-sum, tubes-frames, vertices-exact, triangles-exact, tubes-few}
+use Rattle.tube_theorems.proofs.Ends.{covered-any, segment-placed, covered-some}
+use Rattle.tube_theorems.proofs.Accepted.{kind-few}
+use Rattle.tube_theorems.proofs.Same.{all-same}
 
 -- ---- each tube
 

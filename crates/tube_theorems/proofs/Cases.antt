@@ -5,7 +5,7 @@ use mathlib.Core.List.{List, [], _∷_}
 use lib.Dec.{T}
 use Rattle.tubes.specs.Tubes.{Tube}
 use Rattle.tubes.specs.declared.Source.the-variants.{Coils, Segment}
-use Rattle.listing.specs.Cases.{empty, six, two, lone, givesTubes, givesTotals, cuts, passes, refused}
+use Rattle.tube_theorems.specs.Cases.{empty, six, two, lone, givesTubes, givesTotals, cuts, passes, refused}
 
 pub data Case : Type 0 where
   list : List ℕ → List Tube → Case

@@ -17,9 +17,9 @@ use Rattle.tubes.specs.Tubes.{Tube, given, shown, coilAlpha, segmentAlpha, fram
 use Rattle.tubes.specs.declared.Source.{Source}
 use Rattle.tubes.specs.declared.Source.the-variants.{Coils, Segment}
 use Rattle.mesh.specs.Mesh.{firstOf}
-use Rattle.listing.specs.Listing.{turnOf, Before, Every, InOrder}
-use Rattle.listing.proofs.Linked.{Next, Linked, linked-map, lastOf, last-is, extended-linked}
-use Rattle.listing.proofs.Tubes.{every-join, every-map, From, segment-from, coils-from, and-left, and-right}
+use Rattle.tube_theorems.specs.Listing.{turnOf, Before, Every, InOrder}
+use Rattle.tube_theorems.proofs.Linked.{Next, Linked, linked-map, lastOf, last-is, extended-linked}
+use Rattle.tube_theorems.proofs.Tubes.{every-join, every-map, From, segment-from, coils-from, and-left, and-right}
 
 -- ---- lists of tubes in order
 
