@@ -10,8 +10,8 @@ use lib.ListN.{length}
 use Rattle.numbers.specs.Bytes.{u8At, u16At, u32At}
 use Rattle.job.specs.declared.Checked.{Checked}
 use Rattle.job.specs.declared.Checked.the-variants.{Fine, Refused}
-use Rattle.job.specs.declared.Head.{Head}
-use Rattle.job.specs.Layout.{Whole, headOf, sizeOf}
+use Rattle.protein.specs.declared.Head.{Head}
+use Rattle.protein.specs.Layout.{Whole, headOf, sizeOf}
 use borrow.Author.Tests.{eqb-true, ltb-false, not-false}
 use mathlib.Core.List.{List}
 use Rattle.job.specs.Check.{orFirst, sizes, contents, check, andThen, badVisibility, badKind, badAtom, badCoordinate}

@@ -1,5 +1,5 @@
 -- Checks 1 to 8 in 01's order: its table, line by line.
-use Prim.Native.Nat.{ℕ, zero, suc, _+_, _-_}
+use Prim.Native.Nat.{ℕ, zero, suc, _-_}
 use mathlib.Core.List.{List}
 use mathlib.Core.Bool.{Bool, cond, not, _&&_, _||_}
 use lib.ListN.{length}
@@ -7,8 +7,8 @@ use lib.Dec.{ltb, leb, eqb}
 use Rattle.lists.specs.Search.{first}
 use Rattle.numbers.specs.Bytes.{u8At, u16At, u64At}
 use Rattle.job.specs.Coordinate.{within}
-use Rattle.job.specs.Layout.{lengthField, versionOf, headOf, chainAt, segmentAt, atomAt, sizeOf, none}
-use Rattle.job.specs.declared.Head.{Head}
+use Rattle.protein.specs.Layout.{lengthField, versionOf, headOf, chainAt, kindAt, roleAt, residueAt, chainOfAt, xAt, yAt, zAt, sizeOf, none}
+use Rattle.protein.specs.declared.Head.{Head}
 use Rattle.job.specs.declared.Refusal.{Refusal}
 use Rattle.job.specs.declared.Refusal.the-variants.{BadLength, BadVersion, BadCounts, BadSize, BadVisibility, BadKind, BadAtom, BadCoordinate}
 use Rattle.job.specs.declared.Checked.{Checked}
@@ -31,7 +31,7 @@ badVisibility s h c = ltb 1 (u8At s (chainAt c))
 
 -- 6: 'a kind above 2'
 unfoldable pub badKind : List ℕ → Head → ℕ → Bool
-badKind s h i = ltb 2 (u8At s (segmentAt h i))
+badKind s h i = ltb 2 (u8At s (kindAt h i))
 
 -- 'not none and R or more', 'not none and C or more'
 unfoldable pub stray : ℕ → ℕ → Bool
@@ -40,14 +40,14 @@ stray limit v = not (eqb v none) && leb limit v
 -- 7: 'a role above 2, residue not none and R or more, or chain not none and C or more'
 unfoldable pub badAtom : List ℕ → Head → ℕ → Bool
 badAtom s h a =
-    ltb 2 (u8At s (atomAt h a + 4))
-    || (stray (h .residues) (u16At s (atomAt h a + 5)) || stray (h .chains) (u16At s (atomAt h a + 7)))
+    ltb 2 (u8At s (roleAt h a))
+    || (stray (h .residues) (u16At s (residueAt h a)) || stray (h .chains) (u16At s (chainOfAt h a)))
 
 -- 8: 'a coordinate of any atom not within -16384 to 16384 (NaN included)'
 unfoldable pub badCoordinate : List ℕ → Head → ℕ → Bool
 badCoordinate s h a =
-    not (within (u64At s (atomAt h a + 9)))
-    || (not (within (u64At s (atomAt h a + 17))) || not (within (u64At s (atomAt h a + 25))))
+    not (within (u64At s (xAt h a)))
+    || (not (within (u64At s (yAt h a))) || not (within (u64At s (zAt h a))))
 
 -- the refusal of what a search found, or what comes after ('first chain', 'first segment', 'first atom')
 abbrev pub orFirst : ℕ → (ℕ → Refusal) → Checked → Checked

@@ -1,4 +1,3 @@
-pub mod Layout
 pub mod Refusals
 pub mod Coordinate
 pub mod Check

@@ -1,24 +1,17 @@
-// Job bytes: fields, layout, checks 1 to 8, and the refusals of every call (01, 'Job bytes' and 'Refusal numbers').
+// Checks 1 to 8 of a job's bytes, and the refusals of every call (01, 'Refusal numbers').
+use protein::Head;
 use numbers::u16_at;
 use numbers::u32_at;
 ghost use mathlib.Core.Path.{_≡_};
-ghost use mathlib.Core.Bool.{Bool, not};
+ghost use mathlib.Core.Bool.{not};
 ghost use Prim.Native.Nat.{_+_, _≤_, _<_};
 ghost use lib.ListN.{length};
 ghost use Rattle.lists.specs.Search.{first};
 ghost use Rattle.numbers.specs.Bytes.{u64At};
 ghost use Rattle.job.specs.Coordinate.{within};
 ghost use Rattle.job.specs.Refusals.{refusalNumbers};
-ghost use Rattle.job.specs.Layout.{Whole, segmentAt, atomAt};
+ghost use Rattle.protein.specs.Layout.{Whole};
 ghost use Rattle.job.specs.Check.{sizes, contents, check, stray, badVisibility, badKind, badAtom, badCoordinate};
-
-// The counts of a job: chains C, residues R, segments S, atoms A.
-pub struct Head {
-    pub chains: u16,
-    pub residues: u16,
-    pub segments: u16,
-    pub atoms: u16,
-}
 
 // The refusals of every call in the order of their numbers, with what each carries: 01's 1 to 11, then those of 02 §1, the reader
 // of PDB files, 12 to 16. `numberOf` and `carried` of specs/Refusals set out the tables.
@@ -69,20 +62,6 @@ pub fn refusal_numbers(r: Refusal) -> [usize; 4]
         Refusal::PastLimits => [15, 0, 0, 0],
         Refusal::NoJobRoom(n) => [16, n, 0, 0],
     }
-}
-
-pub fn segment_at(h: Head, i: usize) -> usize
-    requires { ⌜ i ≤ 65536 ⌝ }
-    ensures { λ r. ⌜ r ≡ segmentAt h i ⌝ }
-{
-    13 + (h.chains as usize) + 9 * i
-}
-
-pub fn atom_at(h: Head, a: usize) -> usize
-    requires { ⌜ a ≤ 65536 ⌝ }
-    ensures { λ r. ⌜ r ≡ atomAt h a ⌝ }
-{
-    13 + (h.chains as usize) + 9 * (h.segments as usize) + 33 * a
 }
 
 // Checks 1 to 4.
@@ -143,7 +122,7 @@ pub fn find_kind(b: &[u8], h: Head) -> usize
     let n = h.segments as usize;
     let mut i = 0;
     while i < n {
-        let at = segment_at(h, i);
+        let at = protein::segment_at(h, i);
         if 2 < b[at] {
             return i + 1;
         }
@@ -165,14 +144,13 @@ pub fn is_bad_atom(b: &[u8], h: Head, a: usize) -> bool
     requires { ⌜ Whole (now b) h × a < h .atoms ⌝ }
     ensures { λ r. ⌜ r ≡ badAtom (now (b .entry)) h a ⌝ }
 {
-    let at = atom_at(h, a);
-    if 2 < b[at + 4] {
+    if 2 < protein::role(b, h, a) {
         return true;
     }
-    if is_stray(h.residues as usize, u16_at(b, at + 5)) {
+    if is_stray(h.residues as usize, protein::residue(b, h, a)) {
         return true;
     }
-    is_stray(h.chains as usize, u16_at(b, at + 7))
+    is_stray(h.chains as usize, protein::chain(b, h, a))
 }
 
 pub fn find_atom(b: &[u8], h: Head) -> usize
@@ -210,7 +188,7 @@ pub fn is_bad_coordinate(b: &[u8], h: Head, a: usize) -> bool
     requires { ⌜ Whole (now b) h × a < h .atoms ⌝ }
     ensures { λ r. ⌜ r ≡ badCoordinate (now (b .entry)) h a ⌝ }
 {
-    let at = atom_at(h, a);
+    let at = protein::atom_at(h, a);
     if is_outside(b, at + 9) {
         return true;
     }

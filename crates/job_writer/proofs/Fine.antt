@@ -10,9 +10,9 @@ use lib.ListN.{length, drop}
 use borrow.Author.Tests.{le-ltb, eq-eqb, lt-leb}
 use Rattle.numbers.specs.Bytes.{u8At, u16At, u32At, u64At}
 use Rattle.job.specs.Coordinate.{within}
-use Rattle.job.specs.Layout.{headOf, sizeOf, none}
+use Rattle.protein.specs.Layout.{headOf, sizeOf, none}
 use Rattle.job.specs.Check.{sizes, contents, check, andThen, stray, badVisibility, badKind, badAtom, badCoordinate}
-use Rattle.job.specs.declared.Head.{Head}
+use Rattle.protein.specs.declared.Head.{Head}
 use Rattle.job.specs.declared.Checked.{Checked}
 use Rattle.job.specs.declared.Checked.the-variants.{Fine}
 use Rattle.lists.proofs.Searches.{first-none}

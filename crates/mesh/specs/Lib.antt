@@ -1,3 +1,2 @@
-pub mod Protein
 pub mod Mesh
 pub mod Outs

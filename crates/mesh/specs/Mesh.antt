@@ -16,7 +16,7 @@ use Rattle.skin.specs.Tube.{positionsOf, normalsOf, tagsOf}
 use Rattle.boxes.specs.Box.{boxOf}
 use Rattle.edges.specs.Tube.{vertexCount, triangleCount, tube}
 use Rattle.tubes.specs.Tubes.{Tube, alphaOf, oxygenOf}
-use Rattle.mesh.specs.Protein.{Protein}
+use Rattle.protein.specs.Protein.{Protein}
 
 -- ---- a tube: its size, its kind, its atoms
 

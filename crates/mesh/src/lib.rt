@@ -1,5 +1,5 @@
 // One tube into the lent buffers: positions, normals, tags, triangles, its five words and its box.
-use job::Head;
+use protein::Head;
 use shape::Kind;
 use vectors::Vec3;
 use vectors::put_vec;
@@ -8,8 +8,8 @@ ghost use mathlib.Core.List.{_++_, [], _∷_};
 ghost use Prim.Native.Nat.{_+_, _*_, _-_, _≤_, _<_};
 ghost use lib.ListN.{length};
 ghost use Rattle.lists.specs.Put.{put};
-ghost use Rattle.job.specs.Layout.{Whole};
-ghost use Rattle.places.specs.Places.{placeOf};
+ghost use Rattle.protein.specs.Layout.{Whole};
+ghost use Rattle.protein.specs.Places.{placeOf};
 ghost use Rattle.mesh.specs.Outs.{Room, outs, writtenBy, Atoms};
 ghost use Rattle.mesh.specs.Mesh.{kindOf, spotOf, spots};
 ghost use Rattle.edges.specs.Tube.{vertexCount, triangleCount};
@@ -39,7 +39,7 @@ fn spot(b: &[u8], h: Head, a: usize) -> Vec3
             z: 0.0,
         };
     }
-    places::place(b, h, a)
+    protein::place(b, h, a)
 }
 
 // The positions of a list of atoms, three floats each, from place at on.

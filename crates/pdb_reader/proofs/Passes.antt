@@ -8,7 +8,7 @@ use lib.Dec.{eqb}
 use lib.ListN.{length, drop, length-map}
 use borrow.Author.Tests.{eq-eqb}
 use Rattle.job.specs.Check.{check}
-use Rattle.job.specs.declared.Head.{Head}
+use Rattle.protein.specs.declared.Head.{Head}
 use Rattle.job.specs.declared.Checked.the-variants.{Fine}
 use Rattle.appearance.specs.Order.{member}
 use Rattle.appearance.proofs.Laws.{or-true}

@@ -10,7 +10,7 @@ use lib.ListN.{length, getD, drop, set, replicate, length-drop, length-append, l
 use lib.Seq.{getD-drop, getD-append-add, ext-getD, drop-drop}
 use lib.Dec.{ltb}
 use borrow.Author.Tests.{lt-ltb, le-ltb, ltb-true, ltb-false}
-use Rattle.job.specs.declared.Head.{Head}
+use Rattle.protein.specs.declared.Head.{Head}
 use Rattle.scratch.specs.Scratch.{Filled, Kept}
 use Rattle.job.specs.Check.{sizes}
 use Rattle.lists.proofs.Any.{drop-same}

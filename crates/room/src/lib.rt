@@ -1,5 +1,5 @@
 // Checks 9 and 11, and the scratch after a call that passed check 9.
-use job::Head;
+use protein::Head;
 use walk::Totals;
 ghost use mathlib.Core.Path.{_≡_};
 ghost use Prim.Native.Nat.{_*_, _≤_};

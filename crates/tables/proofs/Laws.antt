@@ -14,7 +14,8 @@ use borrow.Author.Tests.{eq-eqb, ne-eqb, eqb-true, eqb-false, not-true, not-fals
 use Rattle.lists.specs.Search.{first, last, orElse}
 use Rattle.tables.specs.Table.{keeps}
 use Rattle.scratch.specs.Scratch.{Filled}
-use Rattle.tables.specs.Job.{Job, wants, gives, found, codeAt, chainOf}
+use Rattle.tables.specs.Wants.{wants, gives, found, codeAt, chainOf}
+use Rattle.protein.specs.Job.{Job}
 use Rattle.tables.specs.declared.Want.the-variants.{Chain}
 use Rattle.tables.specs.declared.Want.{Want}
 use Rattle.tables.specs.declared.Which.{Which}

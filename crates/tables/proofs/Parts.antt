@@ -8,7 +8,8 @@ use native.Mathlib.Numerals.{add-one}
 use native.Mathlib.Omega.{arith}
 use lib.Dec.{leb, ltb, eqb}
 use borrow.Author.Tests.{leb-true, le-leb, lt-leb, ltb-true, ltb-false, eqb-true, eqb-false}
-use Rattle.tables.specs.Job.{Job, inside, wants, gives, found}
+use Rattle.tables.specs.Wants.{inside, wants, gives, found}
+use Rattle.protein.specs.Job.{Job}
 use Rattle.tables.specs.Stretch.{ascends, sorted, Splits, In, Holds, Reaches, Spans, Widened}
 use Rattle.tables.specs.declared.Range.{Range}
 use Rattle.tables.specs.declared.Part.{Part}

@@ -1,3 +1,3 @@
-pub mod Job
+pub mod Wants
 pub mod Table
 pub mod Stretch

@@ -3,7 +3,8 @@ use Prim.Native.Nat.{ℕ, zero, suc, _-_, _<_, _≤_}
 use mathlib.Core.Bool.{Bool, true, _&&_}
 use mathlib.Core.Path.{_≡_}
 use lib.Dec.{leb}
-use Rattle.tables.specs.Job.{Job, inside, wants}
+use Rattle.tables.specs.Wants.{inside, wants}
+use Rattle.protein.specs.Job.{Job}
 use Rattle.tables.specs.declared.Range.{Range}
 use Rattle.tables.specs.declared.Want.{Want}
 use Rattle.tables.specs.declared.Part.{Part}

@@ -7,7 +7,8 @@ use Rattle.tables.specs.declared.Which.the-variants.{First, Last}
 use mathlib.Core.List.{List}
 use mathlib.Core.Path.{_≡_}
 use lib.ListN.{getD}
-use Rattle.tables.specs.Job.{Job, chainOf}
+use Rattle.tables.specs.Wants.{chainOf}
+use Rattle.protein.specs.Job.{Job}
 
 -- an entry stays when a later atom is asked for: the first stays, the last gives way
 unfoldable pub keeps : Which → ℕ → Bool

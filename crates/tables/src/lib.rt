@@ -1,14 +1,15 @@
 // Residue tables in lent scratch: for each residue an atom, counted from 1, or 0.
 pub mod stretch;
 
-use job::Head;
+use protein::Head;
 ghost use mathlib.Core.Path.{_≡_};
 ghost use Prim.Native.Nat.{ℕ, _+_, _-_, _≤_, _<_};
 ghost use lib.ListN.{length, getD};
 ghost use lib.Dec.{eqb};
 ghost use Rattle.lists.specs.Search.{last};
-ghost use Rattle.job.specs.Layout.{Whole};
-ghost use Rattle.tables.specs.Job.{jobOf, inside, wants, gives, found, chainOf};
+ghost use Rattle.protein.specs.Layout.{Whole};
+ghost use Rattle.tables.specs.Wants.{inside, wants, gives, found, chainOf};
+ghost use Rattle.protein.specs.Job.{jobOf};
 ghost use Rattle.tables.specs.Table.{keeps};
 ghost use Rattle.scratch.specs.Scratch.{Filled};
 ghost use Rattle.tables.specs.Stretch.{Holds};
@@ -52,28 +53,7 @@ fn has_role(b: &[u8], h: Head, a: usize, role: usize) -> bool
     requires { ⌜ Whole (now b) h × a < h .atoms ⌝ }
     ensures { λ r. ⌜ r ≡ eqb (jobOf (now (b .entry)) h .role a) role ⌝ }
 {
-    numbers::byte_at(b, job::atom_at(h, a) + 4) == role
-}
-
-fn serial(b: &[u8], h: Head, a: usize) -> usize
-    requires { ⌜ Whole (now b) h × a < h .atoms ⌝ }
-    ensures { λ r. ⌜ r ≡ jobOf (now (b .entry)) h .serial a ⌝ }
-{
-    numbers::u32_at(b, job::atom_at(h, a))
-}
-
-fn residue(b: &[u8], h: Head, a: usize) -> usize
-    requires { ⌜ Whole (now b) h × a < h .atoms ⌝ }
-    ensures { λ r. ⌜ r ≡ jobOf (now (b .entry)) h .residue a ⌝ }
-{
-    numbers::u16_at(b, job::atom_at(h, a) + 5)
-}
-
-fn chain(b: &[u8], h: Head, a: usize) -> usize
-    requires { ⌜ Whole (now b) h × a < h .atoms ⌝ }
-    ensures { λ r. ⌜ (r ≡ jobOf (now (b .entry)) h .chain a) × (r < 65536) ⌝ }
-{
-    numbers::u16_at(b, job::atom_at(h, a) + 7)
+    protein::role(b, h, a) == role
 }
 
 fn is_wanted(b: &[u8], h: Head, w: Want, a: usize) -> bool
@@ -81,17 +61,17 @@ fn is_wanted(b: &[u8], h: Head, w: Want, a: usize) -> bool
     ensures { λ r. ⌜ r ≡ wants (jobOf (now (b .entry)) h) w a ⌝ }
 {
     match w {
-        Want::Chain => chain(b, h, a) != 65535,
+        Want::Chain => protein::chain(b, h, a) != 65535,
         Want::Alpha => has_role(b, h, a, 1),
         Want::SegmentAlpha(g) => {
             if has_role(b, h, a, 1) {
-                return is_inside(g, serial(b, h, a));
+                return is_inside(g, protein::serial(b, h, a));
             }
             false
         }
         Want::SegmentOxygen(g) => {
             if has_role(b, h, a, 2) {
-                return is_inside(g, serial(b, h, a));
+                return is_inside(g, protein::serial(b, h, a));
             }
             false
         }
@@ -130,7 +110,7 @@ pub fn fill_part(
     let mut a = atoms.from;
     while a < n {
         if is_wanted(b, h, w, a) {
-            let r = residue(b, h, a);
+            let r = protein::residue(b, h, a);
             if first <= r {
                 if r < end {
                     if !is_kept(which, t[base + r]) {
@@ -171,7 +151,7 @@ pub fn to_chains(b: &[u8], h: Head, t: &mut [u32])
     while i < n {
         let a = t[i] as usize;
         if a != 0 {
-            t[i] = (chain(b, h, a - 1) + 1) as u32;
+            t[i] = (protein::chain(b, h, a - 1) + 1) as u32;
         }
         i += 1;
     }

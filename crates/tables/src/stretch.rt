@@ -1,12 +1,12 @@
 // Which atoms, and which residues, a segment reaches. Where serials ascend, as in every file that a program wrote, its atoms are one part of the list.
 use crate::Part;
 use crate::Range;
-use job::Head;
+use protein::Head;
 ghost use mathlib.Core.Path.{_≡_};
 ghost use mathlib.Core.Bool.{true};
 ghost use Prim.Native.Nat.{_+_, _≤_, _<_};
-ghost use Rattle.job.specs.Layout.{Whole};
-ghost use Rattle.tables.specs.Job.{jobOf};
+ghost use Rattle.protein.specs.Layout.{Whole};
+ghost use Rattle.protein.specs.Job.{jobOf};
 ghost use Rattle.tables.specs.Stretch.{sorted, Splits, Reaches, Spans, Widened};
 
 // Whether no atom's serial is below the serial of the atom before it.
@@ -17,7 +17,7 @@ pub fn is_sorted(b: &[u8], h: Head) -> bool
     let n = h.atoms as usize;
     let mut a = 0;
     while a + 1 < n {
-        if crate::serial(b, h, a + 1) < crate::serial(b, h, a) {
+        if protein::serial(b, h, a + 1) < protein::serial(b, h, a) {
             return false;
         }
         a += 1;
@@ -34,7 +34,7 @@ fn count_below(b: &[u8], h: Head, v: usize) -> usize
     let mut hi = h.atoms as usize;
     while lo < hi {
         let mid = lo + (hi - lo) / 2;
-        if crate::serial(b, h, mid) < v {
+        if protein::serial(b, h, mid) < v {
             lo = mid + 1;
         } else {
             hi = mid;
@@ -96,7 +96,7 @@ pub fn span(b: &[u8], h: Head, ascend: bool, atoms: Part) -> Part
     let mut p = Part { from: n, to: 0 };
     let mut a = atoms.from;
     while a < end {
-        p = widened(p, n, crate::residue(b, h, a));
+        p = widened(p, n, protein::residue(b, h, a));
         a += 1;
     }
     if p.to < p.from {

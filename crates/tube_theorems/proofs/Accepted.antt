@@ -7,9 +7,9 @@ use native.Mathlib.Omega.{arith}
 use borrow.Author.Tests.{ltb-false}
 use Rattle.lists.specs.Search.{first}
 use Rattle.numbers.specs.Bytes.{u8At}
-use Rattle.job.specs.Layout.{segmentAt}
+use Rattle.protein.specs.Layout.{segmentAt}
 use Rattle.job.specs.Check.{sizes, badVisibility, badKind, badAtom, badCoordinate, orFirst, contents, andThen, check}
-use Rattle.job.specs.declared.Head.{Head}
+use Rattle.protein.specs.declared.Head.{Head}
 use Rattle.job.specs.declared.Refusal.{Refusal}
 use Rattle.job.specs.declared.Refusal.the-variants.{BadVisibility, BadKind, BadAtom, BadCoordinate}
 use Rattle.job.specs.declared.Checked.{Checked}

@@ -9,7 +9,8 @@ use lib.ListN.{length}
 use lib.Dec.{eqb}
 use borrow.Author.Tests.{ltb-false, le-ltb, ne-eqb, not-true}
 use Rattle.lists.specs.Search.{orElse, first, last}
-use Rattle.tables.specs.Job.{Job, gives, wants}
+use Rattle.tables.specs.Wants.{gives, wants}
+use Rattle.protein.specs.Job.{Job}
 use Rattle.tables.specs.declared.Range.{Range}
 use Rattle.tables.specs.declared.Want.the-variants.{Alpha, SegmentAlpha}
 use Rattle.tubes.specs.Tubes.{range, coilAlpha, segmentAlpha, frames, counts, any, covered}

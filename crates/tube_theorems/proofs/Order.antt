@@ -10,7 +10,8 @@ use native.Mathlib.Omega.{arith}
 use lib.ListN.{length, getD, length-append}
 use lib.Dec.{ltb}
 use borrow.Author.Tests.{ltb-false}
-use Rattle.tables.specs.Job.{Job, chainOf}
+use Rattle.tables.specs.Wants.{chainOf}
+use Rattle.protein.specs.Job.{Job}
 use Rattle.tubes.specs.Frames.{chosen}
 use Rattle.tubes.specs.Pieces.{glue, pieces, apart}
 use Rattle.tubes.specs.Tubes.{Tube, given, shown, coilAlpha, segmentAlpha, frames, counts, covered, gap, tubeOf, tubesOf, runTubes, segmentTubes, joined, loose, leads, joins, extended, coilTubes, tubes}

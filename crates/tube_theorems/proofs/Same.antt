@@ -4,7 +4,8 @@ use mathlib.Core.Bool.{Bool}
 use mathlib.Core.List.{List, [], _∷_}
 use mathlib.Core.Path.{_≡_, refl}
 use native.Mathlib.Omega.{arith}
-use Rattle.tables.specs.Job.{Job, chainOf}
+use Rattle.tables.specs.Wants.{chainOf}
+use Rattle.protein.specs.Job.{Job}
 use Rattle.tubes.specs.Pieces.{pieces, apart}
 use Rattle.tubes.specs.Tubes.{Tube, frames, gap, runTubes, segmentTubes, joined, coilTubes, tubes}
 use Rattle.tubes.specs.declared.Source.{Source}

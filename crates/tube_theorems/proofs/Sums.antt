@@ -7,7 +7,8 @@ use native.Mathlib.Nat.{suc-mul}
 use native.Mathlib.Omega.{arith}
 use lib.ListN.{length, getD}
 use lib.Dec.{ltb}
-use Rattle.tables.specs.Job.{Job, chainOf}
+use Rattle.tables.specs.Wants.{chainOf}
+use Rattle.protein.specs.Job.{Job}
 use Rattle.tubes.specs.Frames.{chosen}
 use Rattle.tubes.specs.Pieces.{glue, pieces, apart}
 use Rattle.tubes.specs.Tubes.{Tube, given, segmentAlpha, shown, frames, counts, gap, tubeOf, tubesOf, runTubes, segmentTubes, joined, loose, joins, extended, coilTubes, tubes}

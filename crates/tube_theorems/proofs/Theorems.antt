@@ -9,9 +9,10 @@ use lib.ListN.{length, getD}
 use lib.Dec.{eqb, ltb}
 use borrow.Author.Tests.{lt-ltb, ne-eqb}
 use Rattle.job.specs.Check.{check}
-use Rattle.job.specs.declared.Head.{Head}
+use Rattle.protein.specs.declared.Head.{Head}
 use Rattle.job.specs.declared.Checked.the-variants.{Fine}
-use Rattle.tables.specs.Job.{Job, jobOf, chainOf}
+use Rattle.tables.specs.Wants.{chainOf}
+use Rattle.protein.specs.Job.{Job, jobOf}
 use Rattle.tubes.specs.declared.Source.{Source}
 use Rattle.tubes.specs.declared.Source.the-variants.{Coils, Segment}
 use Rattle.tubes.specs.Tubes.{Tube, given, shown, coilAlpha, segmentAlpha, frames, counts, covered, joins, segmentTubes, coilTubes, tubes}

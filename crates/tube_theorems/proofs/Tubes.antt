@@ -8,7 +8,8 @@ use native.Mathlib.Omega.{arith}
 use lib.ListN.{length, getD}
 use lib.Dec.{ltb}
 use borrow.Author.Tests.{ltb-true, ltb-false, eqb-true, eq-eqb}
-use Rattle.tables.specs.Job.{Job, chainOf}
+use Rattle.tables.specs.Wants.{chainOf}
+use Rattle.protein.specs.Job.{Job}
 use Rattle.tubes.specs.Frames.{chosen}
 use Rattle.tubes.specs.Lists.{Each, Consecutive}
 use Rattle.tubes.specs.Pieces.{pieces, apart}

@@ -13,18 +13,20 @@ use Rattle.numbers.specs.Bytes.{u16At, u32At, u64At}
 use Rattle.job.specs.Coordinate.{within}
 use Rattle.job.specs.Check.{sizes, badVisibility, badKind, stray, badAtom, badCoordinate, contents, check}
 use Rattle.job.specs.Refusals.{numberOf, carried}
-use Rattle.job.specs.declared.Head.{Head}
+use Rattle.protein.specs.declared.Head.{Head}
 use Rattle.job.specs.declared.Checked.{Checked}
 use Rattle.job.specs.declared.Checked.the-variants.{Fine, Refused}
-use Rattle.tables.specs.Job.{inside, wants, gives, chainOf}
-use Rattle.places.specs.Places.{coordinate, placeOf, far, farBy}
+use Rattle.tables.specs.Wants.{inside, wants, gives, chainOf}
+use Rattle.protein.specs.Places.{coordinate, placeOf, far, farBy}
 use Rattle.edges.specs.Cases.{sameWords}
 use Rattle.tubes.specs.Pieces.{pieces, apart}
 use Rattle.tubes.specs.Frames.{chosen}
 use Rattle.tubes.specs.Tubes.{Tube, shown, coilAlpha, segmentAlpha, alphaOf, frames, counts, any, covered, gap, tubeOf, tubesOf, runTubes, segmentTubes, joined, loose, joins, extended, coilTubes, tubes}
 use Rattle.tubes.specs.declared.Source.{Source}
 use Rattle.tubes.specs.declared.Source.the-variants.{Coils, Segment}
-use Rattle.mesh.specs.Protein.{proteinOf, tubeList}
+use Rattle.tubes.specs.List.{tubeList}
+use Rattle.protein.specs.Protein.{proteinOf}
+use Rattle.edges.specs.Tube.{vertices, triangles}
 use Rattle.mesh.specs.Mesh.{vertexSum, triangleSum}
 
 -- ---- bytes of jobs
@@ -103,7 +105,7 @@ givesTubes s us = ifFine (check s) (λ h. sameTubes (tubeList (proteinOf s h)) u
 
 -- 'K, V, T all 0', 'V 350, T 688'
 unfoldable pub givesTotals : List ℕ → ℕ → ℕ → ℕ → Bool
-unfolding vertexSum triangleSum check sizes contents first badVisibility badKind badAtom badCoordinate stray within u16At u32At u64At last gives wants inside chosen pieces apart chainOf any shown coilAlpha segmentAlpha alphaOf frames counts covered gap tubeOf tubesOf runTubes segmentTubes joined loose joins extended coilTubes tubes tubeList farBy far vlength vsub vdot placeOf coordinate lt eq le ofBits ofFields odd trailingZeros add sub mul root narrowed round
+unfolding vertexSum triangleSum vertices triangles check sizes contents first badVisibility badKind badAtom badCoordinate stray within u16At u32At u64At last gives wants inside chosen pieces apart chainOf any shown coilAlpha segmentAlpha alphaOf frames counts covered gap tubeOf tubesOf runTubes segmentTubes joined loose joins extended coilTubes tubes tubeList farBy far vlength vsub vdot placeOf coordinate lt eq le ofBits ofFields odd trailingZeros add sub mul root narrowed round
 givesTotals s k v t =
     ifFine (check s) (λ h. eqb (length (tubeList (proteinOf s h))) k && (eqb (vertexSum (tubeList (proteinOf s h))) v && eqb (triangleSum (tubeList (proteinOf s h))) t))
 

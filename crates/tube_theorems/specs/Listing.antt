@@ -5,7 +5,8 @@ use mathlib.Core.Bool.{Bool, false}
 use mathlib.Core.Path.{_≡_}
 use mathlib.Core.Logic.{_⊎_}
 use lib.ListN.{length, getD}
-use Rattle.tables.specs.Job.{Job, chainOf}
+use Rattle.tables.specs.Wants.{chainOf}
+use Rattle.protein.specs.Job.{Job}
 use Rattle.tubes.specs.Frames.{chosen}
 use Rattle.tubes.specs.Lists.{Each, Consecutive}
 use Rattle.tubes.specs.Pieces.{pieces, apart}

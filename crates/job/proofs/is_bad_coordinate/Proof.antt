@@ -1,7 +1,7 @@
 use Prim.Native.Nat.{ℕ, _+_}
 use mathlib.Core.Bool.{Bool, false, not}
 use mathlib.Core.Path.{_≡_}
-use Rattle.job.specs.Layout.{atomAt}
+use Rattle.protein.specs.Layout.{atomAt}
 use Rattle.numbers.specs.Bytes.{u64At}
 use Rattle.job.specs.Coordinate.{within}
 use Rattle.job.specs.Check.{badCoordinate}

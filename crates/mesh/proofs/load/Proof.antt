@@ -5,7 +5,7 @@ use native.Mathlib.Omega.{arith}
 use borrow.Author.Needs.{needs}
 use Rattle.lists.specs.Put.{put, upto}
 use Rattle.lists.proofs.Puts.{kept, turn}
-use Rattle.places.specs.Places.{placeOf}
+use Rattle.protein.specs.Places.{placeOf}
 use Rattle.mesh.specs.Mesh.{spotAt, spots}
 use Rattle.mesh.proofs.load.Statement.{statement}
 use Rattle.mesh.proofs.load.Tie as tie

@@ -1,7 +1,7 @@
 use mathlib.Core.Path.{_∙_}
 use lib.ListN.{length-take}
 use native.Mathlib.Omega.{arith}
-use Rattle.places.specs.Places.{placeOf}
+use Rattle.protein.specs.Places.{placeOf}
 use Rattle.mesh.proofs.Laws.{written-is}
 use borrow.Author.Needs.{needs}
 use Rattle.mesh.proofs.write_tube.Statement.{statement}

@@ -4,7 +4,8 @@ use mathlib.Core.Path.{sym, _∙_}
 use mathlib.Core.Logic.{⊎-elim}
 use native.Mathlib.Omega.{arith}
 use borrow.Author.Tests.{not-true, not-false}
-use Rattle.tables.specs.Job.{jobOf, gives, found}
+use Rattle.tables.specs.Wants.{gives, found}
+use Rattle.protein.specs.Job.{jobOf}
 use Rattle.scratch.specs.Scratch.{Filled}
 use Rattle.tables.proofs.Laws.{turn-hit, turn-miss, turn-out, turn-kept}
 use Rattle.scratch.proofs.Laws.{fill-same, fill-start}

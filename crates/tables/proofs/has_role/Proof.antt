@@ -6,4 +6,4 @@ returns : tie.Need-returns
 returns c = cc
 
 pub has-role-spec : {M : Type 1} → statement M
-has-role-spec = tie.close (tie.spec (λ c κs. search needs) (λ c. search needs) (λ c κs. search needs) returns)
+has-role-spec = tie.close (tie.spec (λ c κs. search needs) returns)

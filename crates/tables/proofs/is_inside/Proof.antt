@@ -1,5 +1,5 @@
 use borrow.Author.Tests.{le-leb, lt-leb}
-use Rattle.tables.specs.Job.{inside}
+use Rattle.tables.specs.Wants.{inside}
 use Rattle.tables.proofs.is_inside.Statement.{statement}
 use Rattle.tables.proofs.is_inside.Tie as tie
 

@@ -1,5 +1,5 @@
 use borrow.Author.Needs.{needs}
-use Rattle.tables.specs.Job.{wants}
+use Rattle.tables.specs.Wants.{wants}
 use Rattle.tables.proofs.is_wanted.Statement.{statement}
 use Rattle.tables.proofs.is_wanted.Tie as tie
 

@@ -5,7 +5,8 @@ use Prim.Native.Nat.{ℕ, _≤_, _-_, _+_}
 use mathlib.Core.Path.{_≡_, ap, _∙_}
 use native.Mathlib.Omega.{arith}
 use borrow.Author.Needs.{needs}
-use Rattle.tables.specs.Job.{jobOf, gives, chainOf}
+use Rattle.tables.specs.Wants.{gives, chainOf}
+use Rattle.protein.specs.Job.{jobOf}
 use Rattle.scratch.specs.Scratch.{Filled}
 use mathlib.Core.Logic.{⊎-elim}
 use Rattle.tables.proofs.to_chains.Statement.{statement}

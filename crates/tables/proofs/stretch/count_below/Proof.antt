@@ -1,7 +1,7 @@
 use Prim.Native.Nat.{ℕ, _≤_, _<_, _-_}
 use native.Mathlib.Omega.{arith}
 use borrow.Author.Needs.{needs}
-use Rattle.tables.specs.Job.{jobOf}
+use Rattle.protein.specs.Job.{jobOf}
 use Rattle.tables.proofs.Parts.{sorted-ascends, below-more, above-more}
 use Rattle.tables.proofs.stretch.count_below.Statement.{statement}
 use Rattle.tables.proofs.stretch.count_below.Tie as tie

@@ -3,7 +3,7 @@ use mathlib.Core.Bool.{true}
 use mathlib.Core.Path.{_≡_, sym}
 use native.Mathlib.Omega.{arith}
 use borrow.Author.Needs.{needs}
-use Rattle.tables.specs.Job.{jobOf}
+use Rattle.protein.specs.Job.{jobOf}
 use Rattle.tables.specs.Stretch.{ascends, sorted}
 use Rattle.tables.proofs.Parts.{ascends-none, ascends-more, ascends-not}
 use Rattle.tables.proofs.stretch.is_sorted.Statement.{statement}

@@ -1,7 +1,7 @@
 use Prim.Native.Nat.{ℕ, _≤_, _<_, _-_}
 use native.Mathlib.Omega.{arith}
 use borrow.Author.Needs.{needs}
-use Rattle.tables.specs.Job.{jobOf}
+use Rattle.protein.specs.Job.{jobOf}
 use Rattle.tables.specs.Stretch.{In}
 use Rattle.tables.proofs.Parts.{spans-turn}
 use Rattle.tables.proofs.stretch.span.Statement.{statement}

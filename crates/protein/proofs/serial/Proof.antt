@@ -1,6 +1,6 @@
 use borrow.Author.Needs.{needs}
-use Rattle.tables.proofs.serial.Statement.{statement}
-use Rattle.tables.proofs.serial.Tie as tie
+use Rattle.protein.proofs.serial.Statement.{statement}
+use Rattle.protein.proofs.serial.Tie as tie
 
 returns : tie.Need-returns
 returns c = cc

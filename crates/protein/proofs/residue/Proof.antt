@@ -1,6 +1,6 @@
 use borrow.Author.Needs.{needs}
-use Rattle.tables.proofs.residue.Statement.{statement}
-use Rattle.tables.proofs.residue.Tie as tie
+use Rattle.protein.proofs.residue.Statement.{statement}
+use Rattle.protein.proofs.residue.Tie as tie
 
 returns : tie.Need-returns
 returns c = cc

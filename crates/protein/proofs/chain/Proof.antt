@@ -1,7 +1,7 @@
 use native.Mathlib.Omega.{arith}
 use borrow.Author.Needs.{needs}
-use Rattle.tables.proofs.chain.Statement.{statement}
-use Rattle.tables.proofs.chain.Tie as tie
+use Rattle.protein.proofs.chain.Statement.{statement}
+use Rattle.protein.proofs.chain.Tie as tie
 
 returns : tie.Need-returns
 returns c = (cc, omega arith)

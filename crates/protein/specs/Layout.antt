@@ -1,10 +1,10 @@
--- Where each field of a job stands: 01, 'Job bytes'. The one place that knows the layout.
+-- Where each field of a job stands: 01, 'Job bytes'. The one place that knows the layout: all else says a field by its name.
 use Prim.Native.Nat.{ℕ, _+_, _*_, _≤_}
 use mathlib.Core.List.{List}
 use mathlib.Core.Path.{_≡_}
 use lib.ListN.{length}
 use Rattle.numbers.specs.Bytes.{u8At, u16At, u32At}
-use Rattle.job.specs.declared.Head.{Head}
+use Rattle.protein.specs.declared.Head.{Head}
 
 -- 'u32: bytes that follow these four. u8 version'
 abbrev pub lengthField : List ℕ → ℕ
@@ -25,9 +25,39 @@ chainAt c = 13 + c
 abbrev pub segmentAt : Head → ℕ → ℕ
 segmentAt h i = 13 + h .chains + 9 * i
 
+abbrev pub kindAt : Head → ℕ → ℕ
+kindAt h i = segmentAt h i
+
+abbrev pub startAt : Head → ℕ → ℕ
+startAt h i = segmentAt h i + 1
+
+abbrev pub endAt : Head → ℕ → ℕ
+endAt h i = segmentAt h i + 5
+
 -- 'Then A records of 33 bytes: u32 serial, role, u16 residue, u16 chain, x, y, z as f64 bits'
 abbrev pub atomAt : Head → ℕ → ℕ
 atomAt h a = 13 + h .chains + 9 * h .segments + 33 * a
+
+abbrev pub serialAt : Head → ℕ → ℕ
+serialAt h a = atomAt h a
+
+abbrev pub roleAt : Head → ℕ → ℕ
+roleAt h a = atomAt h a + 4
+
+abbrev pub residueAt : Head → ℕ → ℕ
+residueAt h a = atomAt h a + 5
+
+abbrev pub chainOfAt : Head → ℕ → ℕ
+chainOfAt h a = atomAt h a + 7
+
+abbrev pub xAt : Head → ℕ → ℕ
+xAt h a = atomAt h a + 9
+
+abbrev pub yAt : Head → ℕ → ℕ
+yAt h a = atomAt h a + 17
+
+abbrev pub zAt : Head → ℕ → ℕ
+zAt h a = atomAt h a + 25
 
 -- 'Whole job: 13 + C + 9S + 33A bytes': where an atom after the last would stand
 abbrev pub sizeOf : Head → ℕ

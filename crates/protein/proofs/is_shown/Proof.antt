@@ -1,7 +1,7 @@
-use Rattle.tubes.proofs.Laws.{shown-code}
+use Rattle.protein.proofs.Laws.{shown-code}
 use borrow.Author.Needs.{needs}
-use Rattle.tubes.proofs.is_shown.Statement.{statement}
-use Rattle.tubes.proofs.is_shown.Tie as tie
+use Rattle.protein.proofs.is_shown.Statement.{statement}
+use Rattle.protein.proofs.is_shown.Tie as tie
 
 returns-2 : tie.Need-returns-2
 returns-2 c = shown-code (c .before .before .before .args .b .now) (c .before .before .before .args .h) _ _ (c .before .if1 .left) (c .byte-at .ensures .0)

@@ -1,7 +1,7 @@
-use Rattle.places.specs.Places.{far}
+use Rattle.protein.specs.Places.{far}
 use borrow.Author.Needs.{needs}
-use Rattle.places.proofs.is_long.Statement.{statement}
-use Rattle.places.proofs.is_long.Tie as tie
+use Rattle.protein.proofs.is_long.Statement.{statement}
+use Rattle.protein.proofs.is_long.Tie as tie
 
 returns : tie.Need-returns
 unfolding far

@@ -1,47 +1,15 @@
--- What a job says, apart from its coordinates, as functions of the number of an atom, a segment or a chain. No layout of bytes shows above this file:
--- another version of the bytes, or segment records in a place of their own, is another `jobOf`.
+-- What a table by residue asks of a job: the first or the last atom of each residue that it wants.
 use Prim.Native.Nat.{ℕ, zero, suc, _+_, _≤_}
-use mathlib.Core.List.{List}
 use mathlib.Core.Bool.{Bool, not, _&&_}
 use lib.Dec.{eqb, leb}
 use Rattle.lists.specs.Search.{first, last}
-use Rattle.numbers.specs.Bytes.{u8At, u16At, u32At}
-use Rattle.job.specs.Layout.{chainAt, segmentAt, atomAt, none}
-use Rattle.job.specs.declared.Head.{Head}
+use Rattle.protein.specs.Layout.{none}
 use Rattle.tables.specs.declared.Range.{Range}
 use Rattle.tables.specs.declared.Want.{Want}
 use Rattle.tables.specs.declared.Want.the-variants.{Chain, Alpha, SegmentAlpha, SegmentOxygen}
 use Rattle.tables.specs.declared.Which.{Which}
 use Rattle.tables.specs.declared.Which.the-variants.{First, Last}
-
-pub record Job : Type 0 where
-  pub atoms : ℕ
-  pub residues : ℕ
-  pub segments : ℕ
-  pub visible : ℕ → Bool
-  pub kind : ℕ → ℕ
-  pub start : ℕ → ℕ
-  pub stop : ℕ → ℕ
-  pub serial : ℕ → ℕ
-  pub role : ℕ → ℕ
-  pub residue : ℕ → ℕ
-  pub chain : ℕ → ℕ
-
--- 01, 'Job bytes': 'visible 1 or hidden 0'; 'kind, u32 start serial, u32 end serial'; 'u32 serial, role, u16 residue, u16 chain'
-abbrev pub jobOf : List ℕ → Head → Job
-jobOf s h = record {
-  atoms = h .atoms;
-  residues = h .residues;
-  segments = h .segments;
-  visible = λ c. eqb (u8At s (chainAt c)) 1;
-  kind = λ i. u8At s (segmentAt h i);
-  start = λ i. u32At s (segmentAt h i + 1);
-  stop = λ i. u32At s (segmentAt h i + 5);
-  serial = λ a. u32At s (atomAt h a);
-  role = λ a. u8At s (atomAt h a + 4);
-  residue = λ a. u16At s (atomAt h a + 5);
-  chain = λ a. u16At s (atomAt h a + 7);
-}
+use Rattle.protein.specs.Job.{Job}
 
 -- 'serials from start to end inclusive'
 unfoldable pub inside : Range → ℕ → Bool

@@ -1,7 +1,7 @@
-use Rattle.places.specs.Places.{coordinate, placeOf}
+use Rattle.protein.specs.Places.{coordinate, placeOf}
 use borrow.Author.Needs.{needs}
-use Rattle.places.proofs.place.Statement.{statement}
-use Rattle.places.proofs.place.Tie as tie
+use Rattle.protein.proofs.place.Statement.{statement}
+use Rattle.protein.proofs.place.Tie as tie
 
 returns : tie.Need-returns
 unfolding placeOf coordinate

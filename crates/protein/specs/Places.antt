@@ -1,5 +1,5 @@
 -- Where an atom stands, and whether a step between two atoms is too long for one tube. Atoms are counted from 1 here, as in the residue tables, where 0 is none.
-use Prim.Native.Nat.{ℕ, _+_, _-_}
+use Prim.Native.Nat.{ℕ, _-_}
 use mathlib.Core.List.{List}
 use mathlib.Core.Bool.{Bool}
 use lib.Ieee.{Float, binary32, binary64, ofBits, lt}
@@ -7,8 +7,8 @@ use Rattle.floats.specs.Floats.{narrowed}
 use Rattle.vectors.specs.declared.Vec3.{Vec3}
 use Rattle.vectors.specs.Vec.{vec, vsub, vlength, lit}
 use Rattle.numbers.specs.Bytes.{u64At}
-use Rattle.job.specs.Layout.{atomAt}
-use Rattle.job.specs.declared.Head.{Head}
+use Rattle.protein.specs.Layout.{xAt, yAt, zAt}
+use Rattle.protein.specs.declared.Head.{Head}
 
 -- 01, 'Floats': 'f64 to f32 is IEEE 754 nearest-even'
 unfoldable pub coordinate : List ℕ → ℕ → Float
@@ -17,7 +17,7 @@ coordinate s at = narrowed binary32 (ofBits binary64 (u64At s at))
 
 -- 01, 'Job bytes': 'x, y, z as f64 bits'
 unfoldable pub placeOf : List ℕ → Head → ℕ → Vec3
-placeOf s h a = vec (coordinate s (atomAt h (a - 1) + 9)) (coordinate s (atomAt h (a - 1) + 17)) (coordinate s (atomAt h (a - 1) + 25))
+placeOf s h a = vec (coordinate s (xAt h (a - 1))) (coordinate s (yAt h (a - 1))) (coordinate s (zAt h (a - 1)))
 
 -- 01, 'Tubes': 'cut .. where the step is greater than 5.0'
 unfoldable pub far : Vec3 → Vec3 → Bool

@@ -1,0 +1,4 @@
+pub mod Layout
+pub mod Job
+pub mod Places
+pub mod Protein
