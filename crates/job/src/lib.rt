@@ -1,7 +1,7 @@
 // Checks 1 to 8 of a job's bytes, and the refusals of every call (01, 'Refusal numbers').
-use protein::Head;
 use numbers::u16_at;
 use numbers::u32_at;
+use protein::Head;
 ghost use mathlib.Core.Path.{_≡_};
 ghost use mathlib.Core.Bool.{not};
 ghost use Prim.Native.Nat.{_+_, _≤_, _<_};

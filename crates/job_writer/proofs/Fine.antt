@@ -1,6 +1,6 @@
 -- A written version 1 job whose counts and fields are within 01's limits passes checks 1 to 8: for every reader that writes one. Assumes nothing.
 use Prim.Native.Nat.{ℕ, zero, suc, _+_, _-_, _*_, _%_, _<_, _≤_}
-use mathlib.Core.Bool.{Bool, true, false, not, _&&_}
+use mathlib.Core.Bool.{true, false, not, and-false}
 use mathlib.Core.Path.{_≡_, refl, sym, ap, _∙_, subst}
 use mathlib.Core.List.{List, [], _∷_}
 use native.Mathlib.Nat.{mod-eq-of-lt}
@@ -59,10 +59,6 @@ contents-fine s h a b c d =
       first-none (badAtom s h) (h .atoms) c,
       first-none (badCoordinate s h) (h .atoms) d,
     )
-
-and-false : (a : Bool) → (a && false) ≡ false
-and-false true = refl
-and-false false = refl
 
 not-stray : (limit v : ℕ) → v < limit → stray limit v ≡ false
 unfolding stray

@@ -1,3 +1,4 @@
 pub mod Puts
 pub mod Any
 pub mod Searches
+pub mod Bools

@@ -1,6 +1,6 @@
 -- Laws of lines. Assumes nothing.
 use Prim.Native.Nat.{ℕ, zero, suc, _+_, _-_, _<_, _≤_}
-use mathlib.Core.Bool.{Bool, true, false, _&&_, cond}
+use mathlib.Core.Bool.{Bool, true, false, _&&_, cond, and-false}
 use mathlib.Core.Path.{_≡_, refl, sym, ap, _∙_}
 use mathlib.Core.List.{List, [], _∷_, _++_}
 use native.Mathlib.Numerals.{add-one}
@@ -129,17 +129,12 @@ pub start : (s : List ℕ) (at : ℕ) → lines (drop at s) ≡ ontos (take (at 
 unfolding ontos
 start s at = let e : at - at ≡ 0 = omega arith in rw e
 
--- ---- names
-and-no : (b : Bool) → (b && false) ≡ false
-and-no true = refl
-and-no false = refl
-
 same-length : (xs ys : List ℕ) → (length xs ≡ length ys → ⊥) → same xs ys ≡ false
 unfolding same
 same-length [] [] h = absurd (h refl)
 same-length [] (y ∷ ys) h = refl
 same-length (x ∷ xs) [] h = refl
-same-length (x ∷ xs) (y ∷ ys) h = rw (same-length xs ys (λ e. h (ap suc e))) (and-no (eqb x y))
+same-length (x ∷ xs) (y ∷ ys) h = rw (same-length xs ys (λ e. h (ap suc e))) (and-false (eqb x y))
 
 -- the first i bytes agree
 same-all : (xs ys : List ℕ) → length xs ≡ length ys → ((k : ℕ) → k < length ys → getD xs k 0 ≡ getD ys k 0) → same xs ys ≡ true
@@ -155,7 +150,7 @@ unfolding same
 same-one xs [] k l h e = absurd (omega arith)
 same-one [] (y ∷ ys) k l h e = refl
 same-one (x ∷ xs) (y ∷ ys) zero l h e = rw (ne-eqb x y h)
-same-one (x ∷ xs) (y ∷ ys) (suc k) l h e = rw (same-one xs ys k (omega arith) h (omega arith)) (and-no (eqb x y))
+same-one (x ∷ xs) (y ∷ ys) (suc k) l h e = rw (same-one xs ys k (omega arith) h (omega arith)) (and-false (eqb x y))
 
 module _ (l name : List ℕ) (from : ℕ) where
   at-column : from + 1 - 1 ≡ from

@@ -11,6 +11,7 @@ use borrow.Author.Tests.{ltb-true, leb-true, ne-eqb}
 use Rattle.edges.specs.Tube.{triangleCount}
 use Rattle.tube_call.specs.Part.{tubePart}
 use Rattle.ribbon_c.specs.Parts.{Part}
+use Rattle.lists.proofs.Bools.{and-left, and-right}
 
 clash : {P : Type 0} → true ≡ false → P
 clash e = let z : _≡_ {A = ℕ} 0 1 = cc in absurd (omega arith)
@@ -20,21 +21,13 @@ no-elements : (l : List ℕ) → length l ≡ 0 → [] ≡ l
 no-elements [] e = refl
 no-elements (x ∷ l) e = absurd (omega (arith, e))
 
-first-of : (a b : Bool) → (a && b) ≡ true → a ≡ true
-first-of true b e = refl
-first-of false b e = clash (sym e)
-
-second-of : (a b : Bool) → (a && b) ≡ true → b ≡ true
-second-of true b e = e
-second-of false b e = clash (sym e)
-
 -- the test of `tubePart` holds where the part is not empty
 tested : (t : Bool) (l : List ℕ) → (length (cond t l []) ≡ 0 → ⊥) → t ≡ true
 tested true l h = refl
 tested false l h = absurd (h refl)
 
 third-of : (a b c d : Bool) → (a && (b && (c && d))) ≡ true → d ≡ true
-third-of a b c d e = second-of c d (second-of b (c && d) (second-of a (b && (c && d)) e))
+third-of a b c d e = and-right c d (and-right b (c && d) (and-right a (b && (c && d)) e))
 
 module _ (tubes triangles : List ℕ) (k : ℕ) where
   abbrev from : ℕ
@@ -54,7 +47,7 @@ module _ (tubes triangles : List ℕ) (k : ℕ) where
   full h = tested test _ h
 
   pub listed : (length (tubePart tubes triangles k) ≡ 0 → ⊥) → 5 * k + 4 < length tubes
-  listed h = omega (arith, ltb-true k (length tubes / 5) (first-of (ltb k (length tubes / 5)) (leb 2 many && (leb many 16384 && leb (from + size) (length triangles))) (full h)))
+  listed h = omega (arith, ltb-true k (length tubes / 5) (and-left (ltb k (length tubes / 5)) (leb 2 many && (leb many 16384 && leb (from + size) (length triangles))) (full h)))
 
   whole : test ≡ true → tubePart tubes triangles k ≡ take size (drop from triangles)
   unfolding tubePart

@@ -17,6 +17,7 @@ use Rattle.lists.proofs.Any.{drop-same}
 use Rattle.room.specs.Room.{shortScratch, zeroed, Lent, tight}
 use Rattle.mesh.specs.Outs.{Outs, Room}
 use Rattle.room.specs.declared.Counts.{Counts}
+use Rattle.lists.proofs.Bools.{or-left, or-rest}
 
 pub zeroed-is : (n : ℕ) (t₀ t u : List ℕ) → n ≤ length t₀ → Kept 0 n t₀ t → Filled (λ r. 0) 0 n t u → u ≡ zeroed 0 n t₀
 zeroed-is n t₀ t u fits W F = ext-getD 0 u (zeroed 0 n t₀) sizes places
@@ -84,14 +85,6 @@ long-floats h w f e = ltb-false f (32 * h .residues) (or-last (ltb w (8 * h .res
     or-last : (a b : Bool) → (a || b) ≡ false → b ≡ false
     or-last false b q = q
     or-last true b q = let z : _≡_ {A = ℕ} 0 1 = cc in absurd (omega arith)
-
-pub or-left : (a b : Bool) → (a || b) ≡ false → a ≡ false
-or-left false b q = refl
-or-left true b q = q
-
-pub or-rest : (a b : Bool) → (a || b) ≡ false → b ≡ false
-or-rest false b q = q
-or-rest true b q = let z : _≡_ {A = ℕ} 0 1 = cc in absurd (omega arith)
 
 -- no buffer is too short: there is room
 pub roomy : (c : Counts) (l : Lent) (o : Outs) → l .positions ≡ length (o .positions) → l .normals ≡ length (o .normals) → l .tags ≡ length (o .tags)

@@ -13,7 +13,8 @@ use Rattle.numbers.specs.Bytes.{u16At, u32At, u64At}
 use Rattle.job.specs.Coordinate.{within}
 use Rattle.job.specs.Check.{sizes, badVisibility, badKind, stray, badAtom, badCoordinate, contents, check}
 use Rattle.job.specs.Refusals.{numberOf, carried}
-use Rattle.tables.specs.Wants.{inside, wants, gives, chainOf}
+use Rattle.tables.specs.Wants.{wants, gives, chainOf}
+use Rattle.stretch.specs.Stretch.{inside}
 use Rattle.protein.specs.Places.{coordinate, placeOf, far, farBy}
 use Rattle.edges.specs.Cases.{sameWords}
 use Rattle.tubes.specs.Pieces.{pieces, apart}

@@ -1,6 +1,6 @@
 -- Laws of `Filled`, the tables of the scratch, and of `last`, one turn of a loop at a time. Assumes nothing.
 use Prim.Native.Nat.{ℕ, zero, suc, _+_, _-_, _<_, _≤_}
-use mathlib.Core.Bool.{Bool, true, false, cond, _&&_}
+use mathlib.Core.Bool.{Bool, true, false, cond, and-false}
 use mathlib.Core.List.{List}
 use mathlib.Core.Path.{_≡_, refl, sym, _∙_, ap}
 use mathlib.Core.Logic.{⊎-elim}
@@ -33,10 +33,6 @@ last-yes t n e = rw (add-one, e)
 pub last-no : (t : ℕ → Bool) (n : ℕ) → t n ≡ false → last t (n + 1) ≡ last t n
 unfolding last
 last-no t n e = rw (add-one, e)
-
-pub and-false : (a : Bool) → (a && false) ≡ false
-and-false true = refl
-and-false false = refl
 
 -- an atom is given to its own residue alone
 pub gives-yes : (J : Job) (w : Want) (r a : ℕ) → r ≡ J .residue a → wants J w a ≡ true → gives J w r a ≡ true

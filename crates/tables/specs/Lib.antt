@@ -1,3 +1,2 @@
 pub mod Wants
 pub mod Table
-pub mod Stretch

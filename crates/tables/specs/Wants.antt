@@ -1,19 +1,15 @@
 -- What a table by residue asks of a job: the first or the last atom of each residue that it wants.
 use Prim.Native.Nat.{ℕ, zero, suc, _+_, _≤_}
 use mathlib.Core.Bool.{Bool, not, _&&_}
-use lib.Dec.{eqb, leb}
+use lib.Dec.{eqb}
 use Rattle.lists.specs.Search.{first, last}
 use Rattle.protein.specs.Layout.{none}
-use Rattle.tables.specs.declared.Range.{Range}
 use Rattle.tables.specs.declared.Want.{Want}
 use Rattle.tables.specs.declared.Want.the-variants.{Chain, Alpha, SegmentAlpha, SegmentOxygen}
 use Rattle.tables.specs.declared.Which.{Which}
 use Rattle.tables.specs.declared.Which.the-variants.{First, Last}
 use Rattle.protein.specs.Job.{Job}
-
--- 'serials from start to end inclusive'
-unfoldable pub inside : Range → ℕ → Bool
-inside g v = leb (g .start) v && leb v (g .stop)
+use Rattle.stretch.specs.Stretch.{inside}
 
 -- which atoms a table by residue asks for: those with a chain; C-alphas (role 1); a segment's C-alphas; a segment's oxygens (role 2)
 unfoldable pub wants : Job → Want → ℕ → Bool

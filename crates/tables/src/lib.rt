@@ -1,30 +1,18 @@
 // Residue tables in lent scratch: for each residue an atom, counted from 1, or 0.
-pub mod stretch;
-
 use protein::Head;
+use stretch::Part;
+use stretch::Range;
 ghost use mathlib.Core.Path.{_≡_};
 ghost use Prim.Native.Nat.{ℕ, _+_, _-_, _≤_, _<_};
 ghost use lib.ListN.{length, getD};
 ghost use lib.Dec.{eqb};
 ghost use Rattle.lists.specs.Search.{last};
 ghost use Rattle.protein.specs.Layout.{Whole};
-ghost use Rattle.tables.specs.Wants.{inside, wants, gives, found, chainOf};
+ghost use Rattle.tables.specs.Wants.{wants, gives, found, chainOf};
+ghost use Rattle.stretch.specs.Stretch.{inside};
+ghost use Rattle.tables.specs.Table.{Holds, keeps};
 ghost use Rattle.protein.specs.Job.{jobOf};
-ghost use Rattle.tables.specs.Table.{keeps};
 ghost use Rattle.scratch.specs.Scratch.{Filled};
-ghost use Rattle.tables.specs.Stretch.{Holds};
-
-// Serial numbers from start to stop, both included.
-pub struct Range {
-    pub start: usize,
-    pub stop: usize,
-}
-
-// Atoms or residues from the first number up to, and without, the second.
-pub struct Part {
-    pub from: usize,
-    pub to: usize,
-}
 
 // Which atoms a table asks for.
 pub enum Want {

@@ -11,11 +11,11 @@ use borrow.Author.Tests.{ltb-false, le-ltb, ne-eqb, not-true}
 use Rattle.lists.specs.Search.{orElse, first, last}
 use Rattle.tables.specs.Wants.{gives, wants}
 use Rattle.protein.specs.Job.{Job}
-use Rattle.tables.specs.declared.Range.{Range}
+use Rattle.stretch.specs.declared.Range.{Range}
 use Rattle.tables.specs.declared.Want.the-variants.{Alpha, SegmentAlpha}
 use Rattle.tubes.specs.Tubes.{range, coilAlpha, segmentAlpha, frames, counts, any, covered}
 use Rattle.tubes.proofs.Laws.{given-above}
-use Rattle.tube_theorems.proofs.Tubes.{and-left, and-right}
+use Rattle.lists.proofs.Bools.{and-left, and-right}
 
 -- a number below n that the test takes
 abbrev pub Some : (ℕ → Bool) → ℕ → Type 0

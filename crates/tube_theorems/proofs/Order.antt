@@ -20,7 +20,8 @@ use Rattle.tubes.specs.declared.Source.the-variants.{Coils, Segment}
 use Rattle.mesh.specs.Mesh.{firstOf}
 use Rattle.tube_theorems.specs.Listing.{turnOf, Before, Every, InOrder}
 use Rattle.tube_theorems.proofs.Linked.{Next, Linked, linked-map, lastOf, last-is, extended-linked}
-use Rattle.tube_theorems.proofs.Tubes.{every-join, every-map, From, segment-from, coils-from, and-left, and-right}
+use Rattle.lists.proofs.Bools.{and-left, and-right}
+use Rattle.tube_theorems.proofs.Tubes.{every-join, every-map, From, segment-from, coils-from}
 
 -- ---- lists of tubes in order
 

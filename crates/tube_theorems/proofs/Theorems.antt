@@ -1,6 +1,6 @@
 -- What is proved of 01's list of tubes, `tubes J far`: of any job J, and any test `far` of the step between two atoms. Assumes nothing.
 use Prim.Native.Nat.{ℕ, _+_, _*_, _<_, _≤_}
-use mathlib.Core.Bool.{Bool, true, false, _&&_}
+use mathlib.Core.Bool.{Bool, true, false, _&&_, and-false}
 use mathlib.Core.List.{List, [], List·Memᴰ}
 use mathlib.Core.Path.{_≡_, refl}
 use native.Mathlib.Nat.{mul-le-mul}
@@ -111,10 +111,6 @@ module _ (J : Job) (r : ℕ) where
           → (ltb r (J .residues) && (b && (given (coilAlpha J r) && eqb (chainOf J r) (chainOf J to)))) ≡ (ltb r (J .residues) && (b && eqb (chainOf J r) (chainOf J to)))
       go true e = rw (ne-eqb (coilAlpha J r) 0 (λ z. omega (arith, covered-placed e)))
       go false e = refl
-
-and-false : (b : Bool) → (b && false) ≡ false
-and-false true = refl
-and-false false = refl
 
 module _ (J : Job) (far : ℕ → ℕ → Bool) (i : ℕ) where
   -- 'it is hidden when its first frame's chain is': a hidden segment gives no tube

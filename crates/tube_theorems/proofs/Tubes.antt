@@ -20,6 +20,7 @@ use Rattle.tubes.proofs.Laws.{uncut-consecutive, uncut-chain, chosen-below, cho
 use Rattle.mesh.specs.Mesh.{sizeOf}
 use Rattle.tube_theorems.specs.Listing.{Known, Proper, EachList, Every}
 use Rattle.tube_theorems.proofs.Linked.{Linked, linked-each, linked-neighbours, linked-from, linked-weak, pieces-linked, extended-linked}
+use Rattle.lists.proofs.Bools.{and-left, and-right}
 
 -- ---- P of every tube of a list
 
@@ -72,14 +73,6 @@ runs-from source kind P S cut (r ∷ rs) a =
     (runs-from source kind P S cut rs (a .1))
 
 -- ---- the tubes of one source
-
-pub and-left : (a b : Bool) → (a && b) ≡ true → a ≡ true
-and-left true b e = refl
-and-left false b e = e
-
-pub and-right : (a b : Bool) → (a && b) ≡ true → b ≡ true
-and-right true b e = e
-and-right false b e = let w : _≡_ {A = ℕ} 0 1 = cc in absurd (omega arith)
 
 -- residue r is a residue of the job, with a C-alpha
 abbrev Frame : Job → Source → ℕ → Type 0

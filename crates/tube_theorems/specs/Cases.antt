@@ -16,7 +16,8 @@ use Rattle.job.specs.Refusals.{numberOf, carried}
 use Rattle.protein.specs.declared.Head.{Head}
 use Rattle.job.specs.declared.Checked.{Checked}
 use Rattle.job.specs.declared.Checked.the-variants.{Fine, Refused}
-use Rattle.tables.specs.Wants.{inside, wants, gives, chainOf}
+use Rattle.tables.specs.Wants.{wants, gives, chainOf}
+use Rattle.stretch.specs.Stretch.{inside}
 use Rattle.protein.specs.Places.{coordinate, placeOf, far, farBy}
 use Rattle.edges.specs.Cases.{sameWords}
 use Rattle.tubes.specs.Pieces.{pieces, apart}

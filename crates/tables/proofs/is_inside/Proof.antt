@@ -1,5 +1,5 @@
 use borrow.Author.Tests.{le-leb, lt-leb}
-use Rattle.tables.specs.Wants.{inside}
+use Rattle.stretch.specs.Stretch.{inside}
 use Rattle.tables.proofs.is_inside.Statement.{statement}
 use Rattle.tables.proofs.is_inside.Tie as tie
 

@@ -1,9 +1,9 @@
 use mathlib.Core.Path.{sym, _∙_}
 use borrow.Author.Tests.{not-false}
-use Rattle.tables.proofs.Parts.{reaches-between}
+use Rattle.stretch.proofs.Laws.{reaches-between}
 use borrow.Author.Needs.{needs}
-use Rattle.tables.proofs.stretch.stretch.Statement.{statement}
-use Rattle.tables.proofs.stretch.stretch.Tie as tie
+use Rattle.stretch.proofs.stretch.Statement.{statement}
+use Rattle.stretch.proofs.stretch.Tie as tie
 
 count-below-requires : tie.Need-count-below-requires
 count-below-requires c κs = (c .before .before .pre .0, sym (c .before .before .pre .1) ∙ not-false _ (c .if1 .left))

@@ -4,10 +4,10 @@ use mathlib.Core.Path.{_≡_, sym}
 use native.Mathlib.Omega.{arith}
 use borrow.Author.Needs.{needs}
 use Rattle.protein.specs.Job.{jobOf}
-use Rattle.tables.specs.Stretch.{ascends, sorted}
-use Rattle.tables.proofs.Parts.{ascends-none, ascends-more, ascends-not}
-use Rattle.tables.proofs.stretch.is_sorted.Statement.{statement}
-use Rattle.tables.proofs.stretch.is_sorted.Tie as tie
+use Rattle.stretch.specs.Stretch.{ascends, sorted}
+use Rattle.stretch.proofs.Laws.{ascends-none, ascends-more, ascends-not}
+use Rattle.stretch.proofs.is_sorted.Statement.{statement}
+use Rattle.stretch.proofs.is_sorted.Tie as tie
 
 abbrev Inv-loop : tie.InvT-loop
 Inv-loop b h n a₀ a = (a ≤ n - 1) × (ascends (jobOf b h .serial) a ≡ true)

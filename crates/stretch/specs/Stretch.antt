@@ -3,11 +3,9 @@ use Prim.Native.Nat.{ℕ, zero, suc, _-_, _<_, _≤_}
 use mathlib.Core.Bool.{Bool, true, _&&_}
 use mathlib.Core.Path.{_≡_}
 use lib.Dec.{leb}
-use Rattle.tables.specs.Wants.{inside, wants}
 use Rattle.protein.specs.Job.{Job}
-use Rattle.tables.specs.declared.Range.{Range}
-use Rattle.tables.specs.declared.Want.{Want}
-use Rattle.tables.specs.declared.Part.{Part}
+use Rattle.stretch.specs.declared.Range.{Range}
+use Rattle.stretch.specs.declared.Part.{Part}
 
 -- f never goes down in its first n steps
 unfoldable pub ascends : (ℕ → ℕ) → ℕ → Bool
@@ -24,17 +22,15 @@ pub record Splits (f : ℕ → ℕ) (n v r : ℕ) : Type 0 where
   pub below : (a : ℕ) → a < r → f a < v
   pub above : (a : ℕ) → r ≤ a → a < n → v ≤ f a
 
+-- 'serials from start to end inclusive'
+unfoldable pub inside : Range → ℕ → Bool
+inside g v = leb (g .start) v && leb v (g .stop)
+
 -- k is one of the numbers of the part
 abbrev pub In : Part → ℕ → Type 0
 In p k = (p .from ≤ k) × (k < p .to)
 
--- a part of the atoms in which every atom that a table asks for stands
-pub record Holds (J : Job) (w : Want) (p : Part) : Type 0 where
-  pub from : p .from ≤ J .atoms
-  pub to : p .to ≤ J .atoms
-  pub all : (a : ℕ) → a < J .atoms → wants J w a ≡ true → In p a
-
--- the same of every atom with a serial in a range
+-- a part of the atoms in which every atom with a serial in a range stands
 pub record Reaches (J : Job) (g : Range) (p : Part) : Type 0 where
   pub from : p .from ≤ J .atoms
   pub to : p .to ≤ J .atoms

@@ -2,10 +2,10 @@ use Prim.Native.Nat.{ℕ, _≤_, _<_, _-_}
 use native.Mathlib.Omega.{arith}
 use borrow.Author.Needs.{needs}
 use Rattle.protein.specs.Job.{jobOf}
-use Rattle.tables.specs.Stretch.{In}
-use Rattle.tables.proofs.Parts.{spans-turn}
-use Rattle.tables.proofs.stretch.span.Statement.{statement}
-use Rattle.tables.proofs.stretch.span.Tie as tie
+use Rattle.stretch.specs.Stretch.{In}
+use Rattle.stretch.proofs.Laws.{spans-turn}
+use Rattle.stretch.proofs.span.Statement.{statement}
+use Rattle.stretch.proofs.span.Tie as tie
 
 abbrev Inv-loop : tie.InvT-loop
 Inv-loop b h ascend n end p₀ a₀ p a = (p .to ≤ n) × ((k : ℕ) → a₀ ≤ k → k < a → jobOf b h .residue k < n → In p (jobOf b h .residue k))

@@ -2,9 +2,9 @@ use Prim.Native.Nat.{ℕ, _≤_, _<_, _-_}
 use native.Mathlib.Omega.{arith}
 use borrow.Author.Needs.{needs}
 use Rattle.protein.specs.Job.{jobOf}
-use Rattle.tables.proofs.Parts.{sorted-ascends, below-more, above-more}
-use Rattle.tables.proofs.stretch.count_below.Statement.{statement}
-use Rattle.tables.proofs.stretch.count_below.Tie as tie
+use Rattle.stretch.proofs.Laws.{sorted-ascends, below-more, above-more}
+use Rattle.stretch.proofs.count_below.Statement.{statement}
+use Rattle.stretch.proofs.count_below.Tie as tie
 
 abbrev Inv-loop : tie.InvT-loop
 Inv-loop b h v lo₀ hi₀ lo hi = (lo ≤ hi) × ((hi ≤ h .atoms) × (((a : ℕ) → a < lo → jobOf b h .serial a < v) × ((a : ℕ) → hi ≤ a → a < h .atoms → v ≤ jobOf b h .serial a)))

@@ -1,13 +1,23 @@
 // Which atoms, and which residues, a segment reaches. Where serials ascend, as in every file that a program wrote, its atoms are one part of the list.
-use crate::Part;
-use crate::Range;
 use protein::Head;
 ghost use mathlib.Core.Path.{_≡_};
 ghost use mathlib.Core.Bool.{true};
 ghost use Prim.Native.Nat.{_+_, _≤_, _<_};
 ghost use Rattle.protein.specs.Layout.{Whole};
 ghost use Rattle.protein.specs.Job.{jobOf};
-ghost use Rattle.tables.specs.Stretch.{sorted, Splits, Reaches, Spans, Widened};
+ghost use Rattle.stretch.specs.Stretch.{sorted, Splits, Reaches, Spans, Widened};
+
+// Serial numbers from start to stop, both included.
+pub struct Range {
+    pub start: usize,
+    pub stop: usize,
+}
+
+// Atoms or residues from the first number up to, and without, the second.
+pub struct Part {
+    pub from: usize,
+    pub to: usize,
+}
 
 // Whether no atom's serial is below the serial of the atom before it.
 pub fn is_sorted(b: &[u8], h: Head) -> bool
