@@ -4,9 +4,6 @@ use borrow.Author.Needs.{needs}
 use Rattle.coordinates.proofs.coordinate_bits.Statement.{statement}
 use Rattle.coordinates.proofs.coordinate_bits.Tie as tie
 
-returns : tie.Need-returns
-returns c = zero-bits _ _ (c .if1 .taken)
-
 float-to-bits-result : tie.Need-float-to-bits-result
 float-to-bits-result c = not-nan-neg _ _ (c .before .before .before .fits .size .fits) refl
 
@@ -23,7 +20,7 @@ pub coordinate-bits-spec : {M : Type 1} → statement M
 coordinate-bits-spec =
     tie.close
     (tie.spec
-    returns
+    (λ c. zero-bits _ _ (c .if1 .taken))
     (λ c. search needs)
     float-to-bits-result
     returns-2

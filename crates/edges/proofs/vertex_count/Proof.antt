@@ -5,11 +5,11 @@ use Rattle.edges.proofs.Theorems.{no-tube, ribbon-counts}
 use Rattle.edges.proofs.vertex_count.Statement.{statement}
 use Rattle.edges.proofs.vertex_count.Tie as tie
 
-returns : tie.Need-returns
-returns c = sym (no-tube 8 8 0 (c .before .args .n) (c .if1 .taken) .1)
-
-returns-2 : tie.Need-returns-2
-returns-2 c = sym (ribbon-counts (c .before .args .n) (c .if1 .left) .1)
-
 pub vertex-count-spec : {M : Type 1} → statement M
-vertex-count-spec = tie.close (tie.spec returns (λ c. search needs) (λ c. search needs) returns-2)
+vertex-count-spec =
+    tie.close
+    (tie.spec
+    (λ c. sym (no-tube 8 8 0 (c .before .args .n) (c .if1 .taken) .1))
+    (λ c. search needs)
+    (λ c. search needs)
+    (λ c. sym (ribbon-counts (c .before .args .n) (c .if1 .left) .1)))

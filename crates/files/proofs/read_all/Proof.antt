@@ -12,16 +12,13 @@ Inv-loop from buf₀ done₀ buf done = (done ≤ length buf) × (length buf ≡
 abbrev μ-loop : tie.MeasureT-loop
 μ-loop from buf₀ done₀ buf done = length buf - done
 
-loop-holds : tie.Need-loop-holds Inv-loop μ-loop
-loop-holds c = (omega arith, refl)
-
 pub read-all-spec : {M : Type 1} → statement M
 read-all-spec =
     tie.close
     (tie.spec
     Inv-loop
     μ-loop
-    loop-holds
+    (λ c. (omega arith, refl))
     (λ c. search needs)
     (λ c. search needs)
     (λ c. search needs)

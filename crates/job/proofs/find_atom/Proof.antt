@@ -15,9 +15,6 @@ Inv-loop b h n i₀ i = (i ≤ n) × ((k : ℕ) → k < i → badAtom b h k ≡ 
 abbrev μ-loop : tie.MeasureT-loop
 μ-loop b h n i₀ i = n - i
 
-loop-holds : tie.Need-loop-holds Inv-loop μ-loop
-loop-holds c = (search needs, below-none _)
-
 returns : tie.Need-returns Inv-loop μ-loop
 returns c = sym (first-at _ _ _ (search needs) (c .before .before .before .loop .inv .1) (sym (c .before .is-bad-atom .ensures) ∙ c .if1 .taken))
 
@@ -34,7 +31,7 @@ find-atom-spec =
     Inv-loop
     μ-loop
     (λ c. search needs)
-    loop-holds
+    (λ c. (search needs, below-none _))
     (λ c κs. search needs)
     (λ c. search needs)
     returns

@@ -18,9 +18,6 @@ Inv-loop b h n i₀ i = (i ≤ n) × ((k : ℕ) → k < i → badKind b h k ≡ 
 abbrev μ-loop : tie.MeasureT-loop
 μ-loop b h n i₀ i = n - i
 
-loop-holds : tie.Need-loop-holds Inv-loop μ-loop
-loop-holds c = (search needs, below-none _)
-
 returns : tie.Need-returns Inv-loop μ-loop
 unfolding badKind
 returns c = sym (first-at _ _ _ (search needs) (c .before .before .before .before .loop .inv .1) (ap (λ (k : ℕ). ltb 2 (getD (c .before .before .before .before .before .before .before .args .b .now) k 0)) (sym (c .before .before .segment-at .ensures)) ∙ lt-ltb _ _ (c .if1 .taken)))
@@ -39,7 +36,7 @@ find-kind-spec =
     Inv-loop
     μ-loop
     (λ c. search needs)
-    loop-holds
+    (λ c. (search needs, below-none _))
     (λ c κs. search needs)
     (λ c. search needs)
     (λ c. search needs)

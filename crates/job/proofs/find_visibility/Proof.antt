@@ -18,9 +18,6 @@ Inv-loop b n i₀ i = (i ≤ n) × ((k : ℕ) → k < i → ltb 1 (getD b (13 + 
 abbrev μ-loop : tie.MeasureT-loop
 μ-loop b n i₀ i = n - i
 
-loop-holds : tie.Need-loop-holds Inv-loop μ-loop
-loop-holds c = (search needs, below-none _)
-
 returns : tie.Need-returns Inv-loop μ-loop
 unfolding badVisibility
 returns c = sym (first-at _ _ _ (search needs) (c .before .before .before .loop .inv .1) (lt-ltb _ _ (c .if1 .taken)))
@@ -39,7 +36,7 @@ find-visibility-spec =
     Inv-loop
     μ-loop
     (λ c. search needs)
-    loop-holds
+    (λ c. (search needs, below-none _))
     (λ c. search needs)
     (λ c. search needs)
     (λ c. search needs)

@@ -11,8 +11,5 @@ returns-2 : tie.Need-returns-2
 unfolding kindOf
 returns-2 c = rw (c .if2 .taken)
 
-returns-3 : tie.Need-returns-3
-returns-3 c = kind-sheet _ (c .before .if1 .left) (c .if2 .left)
-
 pub kind-of-spec : {M : Type 1} → statement M
-kind-of-spec = tie.close (tie.spec returns returns-2 returns-3)
+kind-of-spec = tie.close (tie.spec returns returns-2 (λ c. kind-sheet _ (c .before .if1 .left) (c .if2 .left)))

@@ -34,9 +34,6 @@ loop-again c =
     let args = c .before .before .before .before .before .before .before .before .before .before .before .args in
     (omega arith, turn (spotAt (placeOf (args .b .now) (args .h)) (args .atoms .now)) 3 (λ _. refl) _ _ _ (c .before .before .before .before .before .before .before .loop .i) (rw (c .before .before .before .spot .ensures) at (c .before .before .put-vec .ensures)) (c .before .before .before .before .before .before .before .loop .inv .1) (omega arith))
 
-same-length : tie.Need-same-length Inv-loop μ-loop
-same-length c = kept _ _ _ (c .before .loop .inv .1)
-
 returns : tie.Need-returns Inv-loop μ-loop
 unfolding spots
 returns c = let e : length (c .before .before .before .before .before .args .atoms .now) ≡ c .before .loop .i = omega arith in
@@ -59,5 +56,5 @@ load-spec =
     (λ c. search needs)
     (λ c. search needs)
     loop-again
-    same-length
+    (λ c. kept _ _ _ (c .before .loop .inv .1))
     returns)

@@ -5,21 +5,6 @@ use borrow.Author.Needs.{needs}
 use Rattle.mesh.proofs.put_five.Statement.{statement}
 use Rattle.mesh.proofs.put_five.Tie as tie
 
-slice-write-tubes-2 : tie.Need-slice-write-tubes-2
-slice-write-tubes-2 c = simp length-set (omega arith)
-
-slice-write-tubes-3 : tie.Need-slice-write-tubes-3
-slice-write-tubes-3 c = simp length-set (omega arith)
-
-slice-write-tubes-4 : tie.Need-slice-write-tubes-4
-slice-write-tubes-4 c = simp length-set (omega arith)
-
-slice-write-tubes-5 : tie.Need-slice-write-tubes-5
-slice-write-tubes-5 c = simp length-set (omega arith)
-
-returns : tie.Need-returns
-returns c = put5 _ _ _ _ _ _ _
-
 pub put-five-spec : {M : Type 1} → statement M
 put-five-spec =
     tie.close
@@ -28,15 +13,15 @@ put-five-spec =
     (λ c. search needs)
     (λ c. search needs)
     (λ c. search needs)
-    slice-write-tubes-2
+    (λ c. simp length-set (omega arith))
     (λ c. search needs)
     (λ c. search needs)
-    slice-write-tubes-3
+    (λ c. simp length-set (omega arith))
     (λ c. search needs)
     (λ c. search needs)
-    slice-write-tubes-4
+    (λ c. simp length-set (omega arith))
     (λ c. search needs)
     (λ c. search needs)
-    slice-write-tubes-5
+    (λ c. simp length-set (omega arith))
     (λ c. search needs)
-    returns)
+    (λ c. put5 _ _ _ _ _ _ _))

@@ -9,8 +9,5 @@ returns : tie.Need-returns
 unfolding spotOf
 returns c = rw (c .if1 .taken)
 
-returns-2 : tie.Need-returns-2
-returns-2 c = c .place .ensures ∙ spot-some _ _ (c .before .if1 .left)
-
 pub spot-spec : {M : Type 1} → statement M
-spot-spec = tie.close (tie.spec returns (λ c κs. search needs) returns-2)
+spot-spec = tie.close (tie.spec returns (λ c κs. search needs) (λ c. c .place .ensures ∙ spot-some _ _ (c .before .if1 .left)))

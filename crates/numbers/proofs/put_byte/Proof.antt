@@ -3,13 +3,10 @@ use borrow.Author.Needs.{needs}
 use Rattle.numbers.proofs.put_byte.Statement.{statement}
 use Rattle.numbers.proofs.put_byte.Tie as tie
 
-returns : tie.Need-returns
-returns c = put1 _ _ _
-
 pub put-byte-spec : {M : Type 1} → statement M
 put-byte-spec =
     tie.close
     (tie.spec
     (λ c. search needs)
     (λ c. search needs)
-    returns)
+    (λ c. put1 _ _ _))

@@ -6,9 +6,6 @@ use borrow.Author.Needs.{needs}
 use Rattle.numbers.proofs.put_u16.Statement.{statement}
 use Rattle.numbers.proofs.put_u16.Tie as tie
 
-slice-write-out-2 : tie.Need-slice-write-out-2
-slice-write-out-2 c = simp length-set (omega arith)
-
 returns : tie.Need-returns
 unfolding u16
 returns c = two _ _ _ _
@@ -21,6 +18,6 @@ put-u16-spec =
     (λ c. search needs)
     (λ c. search needs)
     (λ c. search needs)
-    slice-write-out-2
+    (λ c. simp length-set (omega arith))
     (λ c. search needs)
     returns)

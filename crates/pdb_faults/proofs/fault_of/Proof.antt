@@ -6,18 +6,6 @@ use Rattle.pdb_faults.proofs.fault_of.Tie as tie
 returns : tie.Need-returns
 returns c = simp (c .before .before .before .before .before .r .given .1, sym (c .before .before .before .is-present .ensures) ∙ c .before .before .if1 .taken, sym (c .before .is-present2 .ensures) ∙ c .if2 .taken)
 
-returns-2 : tie.Need-returns-2
-returns-2 c = simp (c .enum-told .given .1)
-
-returns-3 : tie.Need-returns-3
-returns-3 c = simp (c .enum-told2 .given .1)
-
-returns-4 : tie.Need-returns-4
-returns-4 c = simp (c .enum-told3 .given .1)
-
-returns-5 : tie.Need-returns-5
-returns-5 c = simp (c .enum-told4 .given .1)
-
 returns-6 : tie.Need-returns-6
 returns-6 c = simp (c .before .before .before .before .before .r .given .1, sym (c .before .before .before .is-present .ensures) ∙ c .before .before .if1 .taken, sym (c .before .is-present2 .ensures) ∙ c .if2 .left)
 
@@ -36,9 +24,9 @@ fault-of-spec =
     (λ c κs. search needs)
     (λ c κs. search needs)
     returns
-    returns-2
-    returns-3
-    returns-4
-    returns-5
+    (λ c. simp (c .enum-told .given .1))
+    (λ c. simp (c .enum-told2 .given .1))
+    (λ c. simp (c .enum-told3 .given .1))
+    (λ c. simp (c .enum-told4 .given .1))
     returns-6
     returns-7)

@@ -15,9 +15,6 @@ Inv-loop l i v k₀ value₀ k value = (i ≤ k) × (k ≤ length l) × (i + run
 abbrev μ-loop : tie.MeasureT-loop
 μ-loop l i v k₀ value₀ k value = length l - k
 
-loop-holds : tie.Need-loop-holds Inv-loop μ-loop
-loop-holds c = (omega arith, omega arith, refl, refl, c .before .pre .2)
-
 mul-value : tie.Need-mul-value Inv-loop μ-loop
 mul-value c =
     let loop = c .before .before .before .before .loop in
@@ -65,7 +62,7 @@ digits-spec =
     (tie.spec
     Inv-loop
     μ-loop
-    loop-holds
+    (λ c. (omega arith, omega arith, refl, refl, c .before .pre .2))
     (λ c. search needs)
     (λ c κs. search needs)
     mul-value

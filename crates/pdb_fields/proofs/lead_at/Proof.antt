@@ -10,8 +10,5 @@ returns c = (lead-yes _ _ _ (c .before .before .if1 .taken) (c .if2 .taken), ome
 returns-2 : tie.Need-returns-2
 returns-2 c = (lead-no _ _ _ (c .before .before .if1 .taken) (c .if2 .left), omega arith)
 
-returns-3 : tie.Need-returns-3
-returns-3 c = (lead-over _ _ _ (c .if1 .left), omega arith)
-
 pub lead-at-spec : {M : Type 1} → statement M
-lead-at-spec = tie.close (tie.spec (λ c. search needs) returns returns-2 returns-3)
+lead-at-spec = tie.close (tie.spec (λ c. search needs) returns returns-2 (λ c. (lead-over _ _ _ (c .if1 .left), omega arith)))

@@ -15,9 +15,6 @@ Inv-loop l i k₀ k = (i ≤ k) × (k ≤ length l) × (i + run isBlank (drop i 
 abbrev μ-loop : tie.MeasureT-loop
 μ-loop l i k₀ k = length l - k
 
-loop-holds : tie.Need-loop-holds Inv-loop μ-loop
-loop-holds c = (omega arith, omega arith, refl)
-
 returns : tie.Need-returns Inv-loop μ-loop
 returns c = (stop-no isBlank _ _ _ (c .before .before .before .loop .inv .2) (c .before .before .loop-test .taken) (ne-eqb _ _ (c .if1 .taken)), omega arith)
 
@@ -33,7 +30,7 @@ past-blanks-spec =
     (tie.spec
     Inv-loop
     μ-loop
-    loop-holds
+    (λ c. (omega arith, omega arith, refl))
     (λ c. search needs)
     returns
     (λ c. search needs)

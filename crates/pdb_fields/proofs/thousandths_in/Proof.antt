@@ -6,9 +6,6 @@ use borrow.Author.Needs.{needs}
 use Rattle.pdb_fields.proofs.thousandths_in.Statement.{statement}
 use Rattle.pdb_fields.proofs.thousandths_in.Tie as tie
 
-digits-requires : tie.Need-digits-requires
-digits-requires c κs = (omega arith, omega arith, ten-pos _)
-
 returns : tie.Need-returns
 unfolding thousandths
 returns c = no-digit _ _ _ _ _ (c .before .before .before .past-blanks .ensures .0) (c .before .before .lead-at .ensures .0) (c .before .digits .ensures .0) endThousandths (c .if1 .taken)
@@ -35,7 +32,7 @@ thousandths-in-spec =
     (λ c κs. search needs)
     (λ c κs. search needs)
     (λ c. search needs)
-    digits-requires
+    (λ c κs. (omega arith, omega arith, ten-pos _))
     (λ c. search needs)
     returns
     (λ c κs. search needs)

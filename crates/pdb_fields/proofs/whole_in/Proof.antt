@@ -5,9 +5,6 @@ use borrow.Author.Needs.{needs}
 use Rattle.pdb_fields.proofs.whole_in.Statement.{statement}
 use Rattle.pdb_fields.proofs.whole_in.Tie as tie
 
-digits-requires : tie.Need-digits-requires
-digits-requires c κs = (omega arith, omega arith, ten-pos _)
-
 returns : tie.Need-returns
 unfolding whole
 returns c = no-digit _ _ _ _ _ (c .before .before .before .past-blanks .ensures .0) (c .before .before .lead-at .ensures .0) (c .before .digits .ensures .0) endWhole (c .if1 .taken)
@@ -25,7 +22,7 @@ whole-in-spec =
     (λ c κs. search needs)
     (λ c κs. search needs)
     (λ c. search needs)
-    digits-requires
+    (λ c κs. (omega arith, omega arith, ten-pos _))
     (λ c. search needs)
     returns
     (λ c κs. search needs)

@@ -16,9 +16,6 @@ Inv-loop s name at₀ seen₀ at seen = (at ≤ length s) × (firstAtom name (at
 abbrev μ-loop : tie.MeasureT-loop
 μ-loop s name at₀ seen₀ at seen = length s - at
 
-loop-holds : tie.Need-loop-holds Inv-loop μ-loop
-loop-holds c = (omega arith, refl)
-
 returns : tie.Need-returns Inv-loop μ-loop
 returns c = first-done _ _ _ [] (c .before .before .before .loop .inv .1) (stepped-done _ _ _ _ (c .before .before .step .ensures) (c .enum-told .given .1))
 
@@ -43,7 +40,7 @@ first-atom-spec =
     (tie.spec
     Inv-loop
     μ-loop
-    loop-holds
+    (λ c. (omega arith, refl))
     (λ c κs. search needs)
     (λ c. search needs)
     returns

@@ -4,9 +4,6 @@ use borrow.Author.Needs.{needs}
 use Rattle.pdb_file.proofs.step.Statement.{statement}
 use Rattle.pdb_file.proofs.step.Tie as tie
 
-returns : tie.Need-returns
-returns c = rest-over _ _ _ (c .if1 .taken)
-
 returns-2 : tie.Need-returns-2
 returns-2 c = rest-stop _ _ _ _ _ (c .before .before .before .before .line-at .ensures) _ (c .before .before .kind-of .ensures) (sym (c .before .stops-at .ensures) ∙ c .if2 .taken)
 
@@ -17,7 +14,7 @@ pub step-spec : {M : Type 1} → statement M
 step-spec =
     tie.close
     (tie.spec
-    returns
+    (λ c. rest-over _ _ _ (c .if1 .taken))
     (λ c κs. search needs)
     (λ c. search needs)
     (λ c. search needs)

@@ -14,12 +14,6 @@ Inv-loop l from name i₀ i = (i ≤ length name) × ((k : ℕ) → k < i → ge
 abbrev μ-loop : tie.MeasureT-loop
 μ-loop l from name i₀ i = length name - i
 
-returns : tie.Need-returns Inv-loop μ-loop
-returns c = named-short _ _ _ (c .if1 .taken)
-
-loop-holds : tie.Need-loop-holds Inv-loop μ-loop
-loop-holds c = (omega arith, below-none _)
-
 returns-2 : tie.Need-returns-2 Inv-loop μ-loop
 returns-2 c = named-no _ _ _ _ (c .before .before .before .before .before .if1 .left) (c .before .before .before .loop-test .taken) (c .if2 .taken)
 
@@ -36,8 +30,8 @@ is-at-spec =
     Inv-loop
     μ-loop
     (λ c. search needs)
-    returns
-    loop-holds
+    (λ c. named-short _ _ _ (c .if1 .taken))
+    (λ c. (omega arith, below-none _))
     (λ c. search needs)
     (λ c. search needs)
     (λ c. search needs)

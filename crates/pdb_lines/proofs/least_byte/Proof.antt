@@ -12,9 +12,6 @@ Inv-loop s i least₀ k₀ least k = (k ≤ 16) × ((j : ℕ) → j < k → leas
 abbrev μ-loop : tie.MeasureT-loop
 μ-loop s i least₀ k₀ least k = 16 - k
 
-loop-holds : tie.Need-loop-holds Inv-loop μ-loop
-loop-holds c = (omega arith, λ j h. absurd (omega arith))
-
 loop-again : tie.Need-loop-again Inv-loop μ-loop
 loop-again c = (omega arith, bound-more (c .before .before .before .before .before .args .s .now) (c .before .before .before .before .before .args .i) (c .before .before .before .loop .k) _ _ (c .before .before .before .loop .inv .1) (c .lesser .ensures .0) (c .lesser .ensures .1))
 
@@ -27,7 +24,7 @@ least-byte-spec =
     (tie.spec
     Inv-loop
     μ-loop
-    loop-holds
+    (λ c. (omega arith, λ j h. absurd (omega arith)))
     (λ c. search needs)
     (λ c. search needs)
     (λ c κs. search needs)

@@ -15,9 +15,6 @@ Inv-loop s at i₀ i = (at ≤ i) × (i ≤ length s) × (lines (drop at s) ≡ 
 abbrev μ-loop : tie.MeasureT-loop
 μ-loop s at i₀ i = length s - i
 
-past-plain-requires : tie.Need-past-plain-requires Inv-loop μ-loop
-past-plain-requires c κs = omega arith
-
 loop-holds : tie.Need-loop-holds Inv-loop μ-loop
 loop-holds c = let P = c .past-plain .ensures in
     (P .start, P .end, plain-lines _ _ _ P)
@@ -38,7 +35,7 @@ line-at-spec =
     (tie.spec
     Inv-loop
     μ-loop
-    past-plain-requires
+    (λ c κs. omega arith)
     loop-holds
     (λ c κs. search needs)
     (λ c. search needs)

@@ -12,12 +12,6 @@ Inv-loop s at i₀ i = Plain s at i
 abbrev μ-loop : tie.MeasureT-loop
 μ-loop s at i₀ i = length s - i
 
-loop-holds : tie.Need-loop-holds Inv-loop μ-loop
-loop-holds c = plain-start _ _ (c .before .pre)
-
-sub-loop : tie.Need-sub-loop Inv-loop μ-loop
-sub-loop c = omega (arith, c .loop .inv .end)
-
 least-byte-requires : tie.Need-least-byte-requires Inv-loop μ-loop
 least-byte-requires c κs = omega (arith, c .loop-test .taken, c .before .loop .inv .end)
 
@@ -30,23 +24,17 @@ loop-less c = omega (arith, c .before .before .loop-test .taken, c .before .befo
 loop-again : tie.Need-loop-again Inv-loop μ-loop
 loop-again c = plain-more _ _ _ _ (c .before .before .before .loop .inv) (omega (arith, c .before .before .loop-test .taken, c .before .before .before .loop .inv .end)) (c .before .least-byte .ensures) (c .if1 .taken)
 
-returns : tie.Need-returns Inv-loop μ-loop
-returns c = c .before .before .before .loop .inv
-
-returns-2 : tie.Need-returns-2 Inv-loop μ-loop
-returns-2 c = c .before .loop .inv
-
 pub past-plain-spec : {M : Type 1} → statement M
 past-plain-spec =
     tie.close
     (tie.spec
     Inv-loop
     μ-loop
-    loop-holds
-    sub-loop
+    (λ c. plain-start _ _ (c .before .pre))
+    (λ c. omega (arith, c .loop .inv .end))
     least-byte-requires
     add-i
     loop-less
     loop-again
-    returns
-    returns-2)
+    (λ c. c .before .before .before .loop .inv)
+    (λ c. c .before .loop .inv))

@@ -5,9 +5,6 @@ use borrow.Author.Needs.{needs}
 use Rattle.pdb_reader.proofs.read_pdb.Statement.{statement}
 use Rattle.pdb_reader.proofs.read_pdb.Tie as tie
 
-survey-requires : tie.Need-survey-requires
-survey-requires c κs = empty-tables
-
 find-fault-requires : tie.Need-find-fault-requires
 find-fault-requires c κs = let S = c .before .before .before .survey .ensures in
     (S .noted .known, S .fault, S .ahead-is)
@@ -31,7 +28,7 @@ pub read-pdb-spec : {M : Type 1} → statement M
 read-pdb-spec =
     tie.close
     (tie.spec
-    survey-requires
+    (λ c κs. empty-tables)
     find-fault-requires
     (λ c κs. search needs)
     returns

@@ -65,9 +65,6 @@ write-job-requires c κs =
     let z = size-is _ _ _ (pre .1) m in
     (pre .0, (pre .1, limited _ p, omega (arith, c .before .if2 .left)))
 
-same-length : tie.Need-same-length
-same-length c = kept _ _ _ (c .before .before .write-job .ensures)
-
 returns-3 : tie.Need-returns-3
 returns-3 c =
     let q = c .before .before .before .before .before .before .before .before .before .before .before .pre .1 in
@@ -88,5 +85,5 @@ read-right-spec =
     add-size-3
     returns-2
     write-job-requires
-    same-length
+    (λ c. kept _ _ _ (c .before .before .write-job .ensures))
     returns-3)

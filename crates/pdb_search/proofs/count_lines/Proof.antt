@@ -12,12 +12,6 @@ Inv-loop s w at₀ seen₀ n₀ at seen n = Counting w s at seen n
 abbrev μ-loop : tie.MeasureT-loop
 μ-loop s w at₀ seen₀ n₀ at seen n = length s - at
 
-loop-holds : tie.Need-loop-holds Inv-loop μ-loop
-loop-holds c = counting-start _ _
-
-next-line-requires : tie.Need-next-line-requires Inv-loop μ-loop
-next-line-requires c κs = c .loop .inv .inside
-
 returns : tie.Need-returns Inv-loop μ-loop
 returns c = counting-over _ _ _ _ _ (c .before .before .before .loop .inv) (found-done _ _ _ _ _ (c .before .before .next-line .ensures) (c .enum-told .given .1))
 
@@ -36,8 +30,8 @@ count-lines-spec =
     (tie.spec
     Inv-loop
     μ-loop
-    loop-holds
-    next-line-requires
+    (λ c. counting-start _ _)
+    (λ c κs. c .loop .inv .inside)
     (λ c. search needs)
     (λ c. search needs)
     returns

@@ -3,9 +3,6 @@ use borrow.Author.Needs.{needs}
 use Rattle.pdb_search.proofs.has_letters.Statement.{statement}
 use Rattle.pdb_search.proofs.has_letters.Tie as tie
 
-returns : tie.Need-returns
-returns c = simp (sym (c .before .is-at .ensures) ∙ c .if1 .taken)
-
 returns-2 : tie.Need-returns-2
 returns-2 c = simp (sym (c .before .before .before .before .is-at .ensures) ∙ c .before .before .before .if1 .left, sym (c .before .is-at2 .ensures) ∙ c .if2 .taken)
 
@@ -18,7 +15,7 @@ has-letters-spec =
     (tie.spec
     (λ c. search needs)
     (λ c κs. search needs)
-    returns
+    (λ c. simp (sym (c .before .is-at .ensures) ∙ c .if1 .taken))
     (λ c. search needs)
     (λ c κs. search needs)
     returns-2

@@ -2,9 +2,6 @@ use borrow.Author.Needs.{needs}
 use Rattle.pdb_search.proofs.is_alpha.Statement.{statement}
 use Rattle.pdb_search.proofs.is_alpha.Tie as tie
 
-returns : tie.Need-returns
-returns c = simp (c .before .before .r .given .1)
-
 pub is-alpha-spec : {M : Type 1} → statement M
 is-alpha-spec =
     tie.close
@@ -14,7 +11,7 @@ is-alpha-spec =
     (λ c. search needs)
     (λ c. search needs)
     (λ c. search needs)
-    returns
+    (λ c. simp (c .before .before .r .given .1))
     (λ c. search needs)
     (λ c. search needs)
     (λ c. search needs)

@@ -2,15 +2,6 @@ use borrow.Author.Needs.{needs}
 use Rattle.pdb_search.proofs.is_over.Statement.{statement}
 use Rattle.pdb_search.proofs.is_over.Tie as tie
 
-returns-3 : tie.Need-returns-3
-returns-3 c = rw (c .before .enum-told3 .given .1) (c .stops-at .ensures)
-
-returns-4 : tie.Need-returns-4
-returns-4 c = rw (c .before .enum-told4 .given .1) (c .stops-at2 .ensures)
-
-returns-5 : tie.Need-returns-5
-returns-5 c = rw (c .before .enum-told5 .given .1) (c .stops-at3 .ensures)
-
 pub is-over-spec : {M : Type 1} → statement M
 is-over-spec =
     tie.close
@@ -27,8 +18,8 @@ is-over-spec =
     (λ c. search needs)
     (λ c. search needs)
     (λ c. search needs)
-    returns-3
-    returns-4
-    returns-5
+    (λ c. rw (c .before .enum-told3 .given .1) (c .stops-at .ensures))
+    (λ c. rw (c .before .enum-told4 .given .1) (c .stops-at2 .ensures))
+    (λ c. rw (c .before .enum-told5 .given .1) (c .stops-at3 .ensures))
     (λ c. search needs)
     (λ c. search needs))

@@ -14,9 +14,6 @@ Inv-loop s at seen w from₀ model₀ from model = (at ≤ from) × (from ≤ le
 abbrev μ-loop : tie.MeasureT-loop
 μ-loop s at seen w from₀ model₀ from model = length s - from
 
-loop-holds : tie.Need-loop-holds Inv-loop μ-loop
-loop-holds c = (omega arith, c .before .pre, refl)
-
 returns : tie.Need-returns Inv-loop μ-loop
 returns c = search-stop _ _ _ _ _ _ _ _ (c .before .before .before .before .before .before .loop .inv .0) (c .before .before .before .before .before .before .loop .inv .2) (c .before .before .before .before .line-at .ensures) _ (c .before .before .kind-of .ensures) _ (c .before .is-over .ensures) (c .if1 .taken)
 
@@ -41,7 +38,7 @@ next-line-spec =
     (tie.spec
     Inv-loop
     μ-loop
-    loop-holds
+    (λ c. (omega arith, c .before .pre, refl))
     (λ c κs. search needs)
     (λ c. search needs)
     (λ c. search needs)

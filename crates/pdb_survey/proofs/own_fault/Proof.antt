@@ -2,12 +2,6 @@ use borrow.Author.Needs.{needs}
 use Rattle.pdb_survey.proofs.own_fault.Statement.{statement}
 use Rattle.pdb_survey.proofs.own_fault.Tie as tie
 
-returns : tie.Need-returns
-returns c = rw (c .enum-told .given .1)
-
-returns-2 : tie.Need-returns-2
-returns-2 c = rw (c .enum-told2 .given .1)
-
 pub own-fault-spec : {M : Type 1} → statement M
 own-fault-spec =
     tie.close
@@ -17,8 +11,8 @@ own-fault-spec =
     (λ c. search needs)
     (λ c. search needs)
     (λ c. search needs)
-    returns
-    returns-2
+    (λ c. rw (c .enum-told .given .1))
+    (λ c. rw (c .enum-told2 .given .1))
     (λ c. search needs)
     (λ c. search needs)
     (λ c. search needs))

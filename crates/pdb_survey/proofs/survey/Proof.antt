@@ -15,12 +15,6 @@ Inv-loop s keys₀ links₀ ends₀ marks₀ at₀ seen₀ line₀ fault₀ ahea
 abbrev μ-loop : tie.MeasureT-loop
 μ-loop s keys₀ links₀ ends₀ marks₀ at₀ seen₀ line₀ fault₀ ahead₀ counts₀ keys links ends marks at seen line fault ahead counts = length s - at
 
-loop-holds : tie.Need-loop-holds Inv-loop μ-loop
-loop-holds c = surveying-start _ _ _ _ _ (c .before .pre)
-
-step-requires : tie.Need-step-requires Inv-loop μ-loop
-step-requires c κs = c .loop .inv .inside
-
 returns : tie.Need-returns Inv-loop μ-loop
 returns c = surveying-over _ _ _ _ _ _ _ _ _ _ _ (c .before .before .before .loop .inv) (stepped-done _ _ _ _ (c .before .before .step .ensures) (c .enum-told .given .1))
 
@@ -55,8 +49,8 @@ survey-spec =
     (tie.spec
     Inv-loop
     μ-loop
-    loop-holds
-    step-requires
+    (λ c. surveying-start _ _ _ _ _ (c .before .pre))
+    (λ c κs. c .loop .inv .inside)
     (λ c. search needs)
     returns
     (λ c. search needs)

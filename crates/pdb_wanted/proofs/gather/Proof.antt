@@ -13,12 +13,6 @@ Inv-loop s at seen keys₀ links₀ from₀ model₀ n₀ keys links from model 
 abbrev μ-loop : tie.MeasureT-loop
 μ-loop s at seen keys₀ links₀ from₀ model₀ n₀ keys links from model n = length s - from
 
-loop-holds : tie.Need-loop-holds Inv-loop μ-loop
-loop-holds c = (c .before .pre .0, c .before .pre .1)
-
-returns : tie.Need-returns Inv-loop μ-loop
-returns c = c .before .before .before .before .loop .inv .1
-
 want-ends-requires : tie.Need-want-ends-requires Inv-loop μ-loop
 want-ends-requires c κs = c .before .before .before .before .before .before .before .loop .inv .1
 
@@ -30,21 +24,18 @@ loop-again : tie.Need-loop-again Inv-loop μ-loop
 loop-again c = let o = stepped-got _ _ _ _ _ _ _ (c .before .before .before .before .before .before .step .ensures) (c .before .before .before .before .next .given .1) in
     (o .within, c .want-ends .ensures)
 
-returns-2 : tie.Need-returns-2 Inv-loop μ-loop
-returns-2 c = c .before .loop .inv .1
-
 pub gather-spec : {M : Type 1} → statement M
 gather-spec =
     tie.close
     (tie.spec
     Inv-loop
     μ-loop
-    loop-holds
+    (λ c. (c .before .pre .0, c .before .pre .1))
     (λ c κs. search needs)
     (λ c. search needs)
     (λ c. search needs)
-    returns
+    (λ c. c .before .before .before .before .loop .inv .1)
     want-ends-requires
     loop-less
     loop-again
-    returns-2)
+    (λ c. c .before .loop .inv .1))

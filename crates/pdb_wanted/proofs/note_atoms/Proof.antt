@@ -13,12 +13,6 @@ Inv-loop s keys links n bits₀ at₀ seen₀ bits at seen = Noting s keys links
 abbrev μ-loop : tie.MeasureT-loop
 μ-loop s keys links n bits₀ at₀ seen₀ bits at seen = length s - at
 
-loop-holds : tie.Need-loop-holds Inv-loop μ-loop
-loop-holds c = noting-start _ _ _ _ _ (c .before .pre)
-
-step-requires : tie.Need-step-requires Inv-loop μ-loop
-step-requires c κs = c .loop .inv .inside
-
 returns : tie.Need-returns Inv-loop μ-loop
 returns c = noting-over _ _ _ _ _ _ _ (c .before .before .before .loop .inv) (stepped-done _ _ _ _ (c .before .before .step .ensures) (c .enum-told .given .1))
 
@@ -41,8 +35,8 @@ note-atoms-spec =
     (tie.spec
     Inv-loop
     μ-loop
-    loop-holds
-    step-requires
+    (λ c. noting-start _ _ _ _ _ (c .before .pre))
+    (λ c κs. c .loop .inv .inside)
     (λ c. search needs)
     (λ c. search needs)
     returns

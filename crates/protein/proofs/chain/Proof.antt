@@ -3,8 +3,5 @@ use borrow.Author.Needs.{needs}
 use Rattle.protein.proofs.chain.Statement.{statement}
 use Rattle.protein.proofs.chain.Tie as tie
 
-returns : tie.Need-returns
-returns c = (cc, omega arith)
-
 pub chain-spec : {M : Type 1} → statement M
-chain-spec = tie.close (tie.spec (λ c κs. search needs) (λ c. search needs) (λ c κs. search needs) returns)
+chain-spec = tie.close (tie.spec (λ c κs. search needs) (λ c. search needs) (λ c κs. search needs) (λ c. (cc, omega arith)))

@@ -2,8 +2,5 @@ use borrow.Author.Needs.{needs}
 use Rattle.protein.proofs.kind.Statement.{statement}
 use Rattle.protein.proofs.kind.Tie as tie
 
-returns : tie.Need-returns
-returns c = (cc, c .byte-at .ensures .1)
-
 pub kind-spec : {M : Type 1} → statement M
-kind-spec = tie.close (tie.spec (λ c κs. search needs) (λ c κs. search needs) returns)
+kind-spec = tie.close (tie.spec (λ c κs. search needs) (λ c κs. search needs) (λ c. (cc, c .byte-at .ensures .1)))

@@ -2,8 +2,5 @@ use borrow.Author.Needs.{needs}
 use Rattle.protein.proofs.residue.Statement.{statement}
 use Rattle.protein.proofs.residue.Tie as tie
 
-returns : tie.Need-returns
-returns c = cc
-
 pub residue-spec : {M : Type 1} → statement M
-residue-spec = tie.close (tie.spec (λ c κs. search needs) (λ c. search needs) (λ c κs. search needs) returns)
+residue-spec = tie.close (tie.spec (λ c κs. search needs) (λ c. search needs) (λ c κs. search needs) (λ c. cc))

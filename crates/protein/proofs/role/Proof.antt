@@ -2,8 +2,5 @@ use borrow.Author.Needs.{needs}
 use Rattle.protein.proofs.role.Statement.{statement}
 use Rattle.protein.proofs.role.Tie as tie
 
-returns : tie.Need-returns
-returns c = cc
-
 pub role-spec : {M : Type 1} → statement M
-role-spec = tie.close (tie.spec (λ c κs. search needs) (λ c. search needs) (λ c κs. search needs) returns)
+role-spec = tie.close (tie.spec (λ c κs. search needs) (λ c. search needs) (λ c κs. search needs) (λ c. cc))

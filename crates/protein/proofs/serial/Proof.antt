@@ -2,8 +2,5 @@ use borrow.Author.Needs.{needs}
 use Rattle.protein.proofs.serial.Statement.{statement}
 use Rattle.protein.proofs.serial.Tie as tie
 
-returns : tie.Need-returns
-returns c = cc
-
 pub serial-spec : {M : Type 1} → statement M
-serial-spec = tie.close (tie.spec (λ c κs. search needs) (λ c κs. search needs) returns)
+serial-spec = tie.close (tie.spec (λ c κs. search needs) (λ c κs. search needs) (λ c. cc))

@@ -17,17 +17,11 @@ same-length-3 c = c .before .before .before .before .before .before .before .bef
 same-length-6 : tie.Need-same-length-6
 same-length-6 c = c .before .before .before .before .before .before .before .boxes .given
 
-same-length-9 : tie.Need-same-length-9
-same-length-9 c = c .before .out .given
-
 slice-aggregate-serve-plan : tie.Need-slice-aggregate-serve-plan
 slice-aggregate-serve-plan c = sym (length-take-le _ _ (c .before .before .before .before .before .before .before .before .before .before .before .before .before .before .before .before .pre .1 .words))
 
 slice-aggregate-serve-plan-2 : tie.Need-slice-aggregate-serve-plan-2
 slice-aggregate-serve-plan-2 c = sym (length-take-le _ _ (c .before .before .before .before .before .before .before .before .before .before .before .before .before .before .before .before .before .pre .1 .floats))
-
-same-length-12 : tie.Need-same-length-12
-same-length-12 c = c .before .out2 .given
 
 slice-aggregate-serve-tube : tie.Need-slice-aggregate-serve-tube
 slice-aggregate-serve-tube c = sym (length-take-le _ _ (c .before .before .before .before .before .before .before .before .before .before .before .before .before .before .before .before .pre .1 .tubes))
@@ -39,9 +33,6 @@ serve-tube-requires : tie.Need-serve-tube-requires
 serve-tube-requires c κs =
     let pre = c .before .before .before .before .before .before .before .before .before .before .before .before .before .before .before .before .before .before .pre in
     (pre .0, omega (arith, pre .2 (c .before .before .before .before .before .if1 .left) (c .before .before .before .if2 .left), length-take-le _ (c .before .before .before .before .before .before .before .before .before .before .before .before .before .before .before .before .before .before .args .tubes .now) (pre .1 .tubes), length-take-le _ (c .before .before .before .before .before .before .before .before .before .before .before .before .before .before .before .before .before .before .args .triangles .now) (pre .1 .triangles)))
-
-same-length-15 : tie.Need-same-length-15
-same-length-15 c = c .before .out3 .given
 
 pub answer-spec : {M : Type 1} → statement M
 answer-spec =
@@ -56,7 +47,7 @@ answer-spec =
     same-length-6
     (λ c. search needs)
     (λ c. search needs)
-    same-length-9
+    (λ c. c .before .out .given)
     (λ c. search needs)
     (λ c. search needs)
     slice-aggregate-serve-plan
@@ -65,7 +56,7 @@ answer-spec =
     (λ c κs. search needs)
     (λ c. search needs)
     (λ c. search needs)
-    same-length-12
+    (λ c. c .before .out2 .given)
     (λ c. search needs)
     (λ c. search needs)
     slice-aggregate-serve-tube
@@ -74,5 +65,5 @@ answer-spec =
     serve-tube-requires
     (λ c. search needs)
     (λ c. search needs)
-    same-length-15
+    (λ c. c .before .out3 .given)
     (λ c. search needs))

@@ -28,9 +28,6 @@ slice-aggregate-serve-build-7 c = sym (length-take-le _ _ (c .before .before .be
 slice-aggregate-serve-build-8 : tie.Need-slice-aggregate-serve-build-8
 slice-aggregate-serve-build-8 c = sym (length-take-le _ _ (c .before .before .before .before .before .before .before .before .before .before .before .before .before .before .before .before .before .before .pre .1 .floats))
 
-same-length-9 : tie.Need-same-length-9
-same-length-9 c = c .before .out .given
-
 pub answer-build-spec : {M : Type 1} → statement M
 answer-build-spec =
     tie.close
@@ -60,5 +57,5 @@ answer-build-spec =
     (λ c. search needs)
     (λ c. search needs)
     (λ c. search needs)
-    same-length-9
+    (λ c. c .before .out .given)
     (λ c. search needs))

@@ -12,16 +12,13 @@ Inv-loop job tubes words₀ floats₀ k₀ words floats k = (k ≤ tubes) × (le
 abbrev μ-loop : tie.MeasureT-loop
 μ-loop job tubes words₀ floats₀ k₀ words floats k = tubes - k
 
-loop-holds : tie.Need-loop-holds Inv-loop μ-loop
-loop-holds c = (omega arith, refl, refl)
-
 pub print-tubes-spec : {M : Type 1} → statement M
 print-tubes-spec =
     tie.close
     (tie.spec
     Inv-loop
     μ-loop
-    loop-holds
+    (λ c. (omega arith, refl, refl))
     (λ c κs. search needs)
     (λ c. search needs)
     (λ c. search needs)

@@ -39,14 +39,8 @@ same-length-7 c = c .before .before .before .before .before .before .before .bef
 same-length-8 : tie.Need-same-length-8
 same-length-8 c = c .before .before .before .before .before .before .before .words .given
 
-same-length-9 : tie.Need-same-length-9
-same-length-9 c = c .before .before .before .before .before .floats .given
-
 same-length-10 : tie.Need-same-length-10
 same-length-10 c = simp (length-append, length-drop) (omega (arith, c .before .before .before .before .before .before .before .before .before .before .before .before .before .before .before .before .before .before .before .before .before .before .before .before .before .before .before .before .before .before .before .before .before .before .bytes .given, c .before .before .before .before .before .before .before .before .before .before .before .before .before .before .before .before .before .before .before .before .before .before .before .before .before .before .before .before .before .before .before .before .before .before .before .before .before .before .before .before .before .before .before .before .before .before .before .pre .1 .fits, length-take-le _ (c .before .before .before .before .before .before .before .before .before .before .before .before .before .before .before .before .before .before .before .before .before .before .before .before .before .before .before .before .before .before .before .before .before .before .before .before .before .before .before .before .before .before .before .before .before .before .before .args .bytes .now) (c .before .before .before .before .before .before .before .before .before .before .before .before .before .before .before .before .before .before .before .before .before .before .before .before .before .before .before .before .before .before .before .before .before .before .before .before .before .before .before .before .before .before .before .before .before .before .before .pre .1 .fits)))
-
-same-length-11 : tie.Need-same-length-11
-same-length-11 c = c .before .before .before .out .given
 
 pub answer-next-spec : {M : Type 1} → statement M
 answer-next-spec =
@@ -70,7 +64,7 @@ answer-next-spec =
     same-length-6
     same-length-7
     same-length-8
-    same-length-9
+    (λ c. c .before .before .before .before .before .floats .given)
     same-length-10
-    same-length-11
+    (λ c. c .before .before .before .out .given)
     (λ c. search needs))

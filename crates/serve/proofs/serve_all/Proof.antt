@@ -13,23 +13,8 @@ Inv-loop from s positions₀ normals₀ tags₀ triangles₀ tubes₀ boxes₀ w
 abbrev μ-loop : tie.MeasureT-loop
 μ-loop from s positions₀ normals₀ tags₀ triangles₀ tubes₀ boxes₀ words₀ floats₀ job₀ bytes₀ out₀ n₀ positions normals tags triangles tubes boxes words floats job bytes out n = 281474976710656 - n
 
-room-for-bytes-requires : tie.Need-room-for-bytes-requires Inv-loop μ-loop
-room-for-bytes-requires c κs = tt
-
 loop-holds : tie.Need-loop-holds Inv-loop μ-loop
 loop-holds c = (sym (length-replicate 102000 (ofBits binary32 0)), sym (length-replicate 102000 (ofBits binary32 0)), sym (length-replicate {A = ℕ} 34000 0), sym (length-replicate {A = ℕ} 203988 0), sym (length-replicate {A = ℕ} 5120 0), sym (length-replicate 6144 (ofBits binary32 0)), sym (length-replicate {A = ℕ} 4096 0), sym (length-replicate 16384 (ofBits binary32 0)), sym (length-replicate {A = ℕ} 102000 0), c .room-for-bytes .ensures, sym (length-replicate {A = ℕ} 65536 0))
-
-slice-aggregate-serve : tie.Need-slice-aggregate-serve Inv-loop μ-loop
-slice-aggregate-serve c = c .before .before .loop .inv .0
-
-slice-aggregate-serve-2 : tie.Need-slice-aggregate-serve-2 Inv-loop μ-loop
-slice-aggregate-serve-2 c = c .before .before .before .loop .inv .1
-
-slice-aggregate-serve-3 : tie.Need-slice-aggregate-serve-3 Inv-loop μ-loop
-slice-aggregate-serve-3 c = c .before .before .before .before .loop .inv .2
-
-slice-aggregate-serve-4 : tie.Need-slice-aggregate-serve-4 Inv-loop μ-loop
-slice-aggregate-serve-4 c = c .before .before .before .before .before .loop .inv .3
 
 slice-aggregate-serve-5 : tie.Need-slice-aggregate-serve-5 Inv-loop μ-loop
 slice-aggregate-serve-5 c = c .before .before .before .before .before .before .loop .inv .4
@@ -55,23 +40,8 @@ slice-aggregate-serve-11 c = c .before .before .before .before .before .before .
 serve-requires : tie.Need-serve-requires Inv-loop μ-loop
 serve-requires c κs = (omega (arith, c .before .before .before .before .before .before .before .before .before .before .before .before .before .before .pre, c .before .before .before .before .before .before .before .before .before .before .before .before .loop .inv .10), omega (arith, c .before .before .before .before .before .before .before .before .before .before .before .before .loop .inv .9))
 
-returns : tie.Need-returns Inv-loop μ-loop
-returns c = tt
-
-returns-2 : tie.Need-returns-2 Inv-loop μ-loop
-returns-2 c = tt
-
-add-n : tie.Need-add-n Inv-loop μ-loop
-add-n c = omega arith
-
-loop-less : tie.Need-loop-less Inv-loop μ-loop
-loop-less c = omega arith
-
 loop-again : tie.Need-loop-again Inv-loop μ-loop
 loop-again c = (sym (c .before .before .before .before .before .before .before .before .before .before .before .before .before .before .positions2 .given), sym (c .before .before .before .before .before .before .before .before .before .before .before .before .before .normals2 .given), sym (c .before .before .before .before .before .before .before .before .before .before .before .before .tags2 .given), sym (c .before .before .before .before .before .before .before .before .before .before .before .triangles2 .given), sym (c .before .before .before .before .before .before .before .before .before .before .tubes2 .given), sym (c .before .before .before .before .before .before .before .before .before .boxes2 .given), sym (c .before .before .before .before .before .before .before .before .words2 .given), sym (c .before .before .before .before .before .before .before .floats2 .given), sym (c .before .before .before .before .before .before .job2 .given), sym (c .before .before .before .before .before .bytes2 .given), sym (c .before .before .before .before .out2 .given))
-
-returns-3 : tie.Need-returns-3 Inv-loop μ-loop
-returns-3 c = tt
 
 pub serve-all-spec : {M : Type 1} → statement M
 serve-all-spec =
@@ -79,12 +49,12 @@ serve-all-spec =
     (tie.spec
     Inv-loop
     μ-loop
-    room-for-bytes-requires
+    (λ c κs. tt)
     loop-holds
-    slice-aggregate-serve
-    slice-aggregate-serve-2
-    slice-aggregate-serve-3
-    slice-aggregate-serve-4
+    (λ c. c .before .before .loop .inv .0)
+    (λ c. c .before .before .before .loop .inv .1)
+    (λ c. c .before .before .before .before .loop .inv .2)
+    (λ c. c .before .before .before .before .before .loop .inv .3)
     slice-aggregate-serve-5
     slice-aggregate-serve-6
     slice-aggregate-serve-7
@@ -96,9 +66,9 @@ serve-all-spec =
     (λ c. search needs)
     (λ c. search needs)
     (λ c κs. search needs)
-    returns
-    returns-2
-    add-n
-    loop-less
+    (λ c. tt)
+    (λ c. tt)
+    (λ c. omega arith)
+    (λ c. omega arith)
     loop-again
-    returns-3)
+    (λ c. tt))

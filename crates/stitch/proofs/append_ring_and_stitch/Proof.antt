@@ -19,24 +19,6 @@ loop-holds : tie.Need-loop-holds Inv-loop μ-loop
 unfolding put upto
 loop-holds c = (omega arith, omega arith, refl)
 
-add-k1 : tie.Need-add-k1 Inv-loop μ-loop
-add-k1 c = omega arith
-
-add-a0 : tie.Need-add-a0 Inv-loop μ-loop
-add-a0 c = omega arith
-
-add-a1 : tie.Need-add-a1 Inv-loop μ-loop
-add-a1 c = omega arith
-
-add-b0 : tie.Need-add-b0 Inv-loop μ-loop
-add-b0 c = omega arith
-
-add-b1 : tie.Need-add-b1 Inv-loop μ-loop
-add-b1 c = omega arith
-
-put-corners-requires : tie.Need-put-corners-requires Inv-loop μ-loop
-put-corners-requires c κs = omega (arith, kept _ _ _ (c .before .before .loop .inv .2))
-
 add-put-corners : tie.Need-add-put-corners Inv-loop μ-loop
 add-put-corners c = omega (arith, kept _ _ _ (c .before .before .before .before .before .before .loop .inv .2))
 
@@ -46,21 +28,12 @@ put-corners-requires-2 c κs = omega (arith, kept _ _ _ (c .before .before .befo
 add-place : tie.Need-add-place Inv-loop μ-loop
 add-place c = omega (arith, kept _ _ _ (c .before .before .before .before .before .before .before .before .before .loop .inv .2))
 
-add-k : tie.Need-add-k Inv-loop μ-loop
-add-k c = omega arith
-
-loop-less : tie.Need-loop-less Inv-loop μ-loop
-loop-less c = omega arith
-
 loop-again : tie.Need-loop-again Inv-loop μ-loop
 unfolding tube.next
 loop-again c = let loop = c .before .before .before .before .before .before .before .before .before .loop in
     let args = c .before .before .before .before .before .before .before .before .before .before .before .args in
     let side = next _ _ (loop .place) _ _ _ (c .before .before .put-corners2 .ensures) (c .before .before .before .before .before .before .put-corners .ensures) refl in
     (omega arith, omega arith, turn (bandSide 8 (args .a) (args .b)) 6 (λ k. refl) _ _ _ (loop .k) side (loop .inv .2) (loop .inv .1))
-
-same-length : tie.Need-same-length Inv-loop μ-loop
-same-length c = kept _ _ _ (c .before .loop .inv .2)
 
 returns : tie.Need-returns Inv-loop μ-loop
 unfolding band
@@ -74,17 +47,17 @@ append-ring-and-stitch-spec =
     Inv-loop
     μ-loop
     loop-holds
-    add-k1
-    add-a0
-    add-a1
-    add-b0
-    add-b1
-    put-corners-requires
+    (λ c. omega arith)
+    (λ c. omega arith)
+    (λ c. omega arith)
+    (λ c. omega arith)
+    (λ c. omega arith)
+    (λ c κs. omega (arith, kept _ _ _ (c .before .before .loop .inv .2)))
     add-put-corners
     put-corners-requires-2
     add-place
-    add-k
-    loop-less
+    (λ c. omega arith)
+    (λ c. omega arith)
     loop-again
-    same-length
+    (λ c. kept _ _ _ (c .before .loop .inv .2))
     returns)

@@ -25,12 +25,6 @@ cap-side-requires c κs = (omega (arith, kept _ _ _ (c .before .before .loop .in
 add-place : tie.Need-add-place Inv-loop μ-loop
 add-place c = omega (arith, kept _ _ _ (c .before .before .before .before .before .loop .inv .2))
 
-add-k : tie.Need-add-k Inv-loop μ-loop
-add-k c = omega arith
-
-loop-less : tie.Need-loop-less Inv-loop μ-loop
-loop-less c = omega arith
-
 loop-again : tie.Need-loop-again Inv-loop μ-loop
 loop-again c = let loop = c .before .before .before .before .before .loop in
     let args = c .before .before .before .before .before .before .before .args in (
@@ -39,9 +33,6 @@ loop-again c = let loop = c .before .before .before .before .before .loop in
       turn (capSide 8 (args .inward) (args .center) (args .base)) 3 (cap-side-size 8 (args .inward) (args .center) (args .base)) _ _ _ (loop .k)
           (c .before .before .cap-side .ensures) (loop .inv .2) (loop .inv .1),
     )
-
-same-length : tie.Need-same-length Inv-loop μ-loop
-same-length c = kept _ _ _ (c .before .loop .inv .2)
 
 returns : tie.Need-returns Inv-loop μ-loop
 unfolding cap
@@ -57,8 +48,8 @@ emit-cap-spec =
     loop-holds
     cap-side-requires
     add-place
-    add-k
-    loop-less
+    (λ c. omega arith)
+    (λ c. omega arith)
     loop-again
-    same-length
+    (λ c. kept _ _ _ (c .before .loop .inv .2))
     returns)

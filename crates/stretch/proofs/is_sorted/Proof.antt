@@ -15,9 +15,6 @@ Inv-loop b h n a₀ a = (a ≤ n - 1) × (ascends (jobOf b h .serial) a ≡ true
 abbrev μ-loop : tie.MeasureT-loop
 μ-loop b h n a₀ a = n - a
 
-loop-holds : tie.Need-loop-holds Inv-loop μ-loop
-loop-holds c = (omega arith, ascends-none _)
-
 returns : tie.Need-returns Inv-loop μ-loop
 unfolding sorted
 returns c = sym (ascends-not (jobOf (c .before .before .before .before .before .before .before .args .b .now) (c .before .before .before .before .before .before .before .args .h) .serial) (c .before .before .before .before .loop .a) _ (omega arith) (omega arith))
@@ -36,7 +33,7 @@ is-sorted-spec =
     Inv-loop
     μ-loop
     (λ c. search needs)
-    loop-holds
+    (λ c. (omega arith, ascends-none _))
     (λ c. search needs)
     (λ c. search needs)
     (λ c κs. search needs)

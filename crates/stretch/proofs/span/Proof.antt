@@ -16,9 +16,6 @@ abbrev μ-loop : tie.MeasureT-loop
 returns : tie.Need-returns Inv-loop μ-loop
 returns c = record { order = omega arith; to = omega arith; all = λ a i l. (omega arith, l) }
 
-loop-holds : tie.Need-loop-holds Inv-loop μ-loop
-loop-holds c = (omega arith, λ k l m. absurd (omega arith))
-
 loop-again : tie.Need-loop-again Inv-loop μ-loop
 loop-again c = (c .widened .ensures .to, spans-turn (jobOf (c .before .before .before .before .before .before .before .args .b .now) (c .before .before .before .before .before .before .before .args .h)) _ _ _ _ _ _ (c .before .residue .ensures) (c .widened .ensures) (c .before .before .before .loop .inv .1))
 
@@ -36,7 +33,7 @@ span-spec =
     μ-loop
     (λ c. search needs)
     returns
-    loop-holds
+    (λ c. (omega arith, λ k l m. absurd (omega arith)))
     (λ c κs. search needs)
     (λ c κs. search needs)
     (λ c. search needs)

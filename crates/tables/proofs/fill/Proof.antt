@@ -11,8 +11,12 @@ fill-part-requires c κs =
     let pre = c .before .before .before .before .before .pre in
     ((pre .0 .0, pre .0 .1, omega arith, held-all _ _), λ r l. rw add-zero (pre .1 r (omega arith)))
 
-returns : tie.Need-returns
-returns c = fill-all _ _ _ _ _ (c .before .before .fill-part .ensures)
-
 pub fill-spec : {M : Type 1} → statement M
-fill-spec = tie.close (tie.spec (λ c. search needs) (λ c. search needs) fill-part-requires (λ c. search needs) returns)
+fill-spec =
+    tie.close
+    (tie.spec
+    (λ c. search needs)
+    (λ c. search needs)
+    fill-part-requires
+    (λ c. search needs)
+    (λ c. fill-all _ _ _ _ _ (c .before .before .fill-part .ensures)))

@@ -24,9 +24,6 @@ loop-holds c = (search needs, fill-start _ _ _ _ (λ r l. absurd (omega arith)))
 mul-a : tie.Need-mul-a Inv-loop μ-loop
 mul-a c = omega (arith, c .before .loop .inv .1 .size, c .before .before .before .before .before .good .1 .1 .0 .1)
 
-slice-read-a : tie.Need-slice-read-a Inv-loop μ-loop
-slice-read-a c = omega (arith, c .before .before .loop .inv .1 .size)
-
 cast-a : tie.Need-cast-a Inv-loop μ-loop
 cast-a c = omega (arith, c .slice-known2 .given (c .before .before .loop .i))
 
@@ -52,9 +49,6 @@ loop-again c =
     (λ x. (omega arith, rw (x .1) (grow-same _ _ _ _ (loop .inv .1) (code-none (jobOf (args .b .now) (args .h)) _ _ q (x .0 .left)))))
     (c .if1 .came)
 
-same-length : tie.Need-same-length Inv-loop μ-loop
-same-length c = c .before .loop .inv .1 .size
-
 returns : tie.Need-returns Inv-loop μ-loop
 returns c = let q : c .before .loop .i ≡ c .before .before .before .before .before .args .h .residues = omega arith in rw q at (c .before .loop .inv .1)
 
@@ -67,7 +61,7 @@ to-chains-spec =
     (λ c. search needs)
     loop-holds
     mul-a
-    slice-read-a
+    (λ c. omega (arith, c .before .before .loop .inv .1 .size))
     cast-a
     (λ c. search needs)
     chain-requires
@@ -78,5 +72,5 @@ to-chains-spec =
     (λ c. search needs)
     (λ c. search needs)
     loop-again
-    same-length
+    (λ c. c .before .loop .inv .1 .size)
     returns)

@@ -20,14 +20,8 @@ loop-holds : tie.Need-loop-holds Inv-loop μ-loop
 unfolding put upto
 loop-holds c = (omega arith, refl)
 
-put-vec-requires : tie.Need-put-vec-requires Inv-loop μ-loop
-put-vec-requires c κs = omega (arith, kept _ _ _ (c .before .before .loop .inv .1))
-
 loop-again : tie.Need-loop-again Inv-loop μ-loop
 loop-again c = (omega arith, turn _ 3 (λ _. refl) _ 0 _ (c .before .before .before .before .before .loop .i) (c .before .before .put-vec .ensures) (c .before .before .before .before .before .loop .inv .1) (omega arith))
-
-same-length : tie.Need-same-length Inv-loop μ-loop
-same-length c = kept _ _ _ (c .before .loop .inv .1)
 
 returns : tie.Need-returns Inv-loop μ-loop
 unfolding same
@@ -41,9 +35,9 @@ fill-spec =
     μ-loop
     loop-holds
     (λ c. search needs)
-    put-vec-requires
+    (λ c κs. omega (arith, kept _ _ _ (c .before .before .loop .inv .1)))
     (λ c. search needs)
     (λ c. search needs)
     loop-again
-    same-length
+    (λ c. kept _ _ _ (c .before .loop .inv .1))
     returns)

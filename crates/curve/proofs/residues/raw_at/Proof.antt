@@ -7,24 +7,18 @@ use borrow.Author.Needs.{needs}
 use Rattle.curve.proofs.residues.raw_at.Statement.{statement}
 use Rattle.curve.proofs.residues.raw_at.Tie as tie
 
-slice-aggregate-raw-of : tie.Need-slice-aggregate-raw-of
-slice-aggregate-raw-of c = sym (length-take-le _ _ (omega arith))
-
 raw-of-requires : tie.Need-raw-of-requires
 raw-of-requires c κs = (omega arith, simp length-take (omega arith), omega arith, simp (rest, length-drop) (omega arith))
-
-returns : tie.Need-returns
-returns c = rw rest at (c .raw-of .ensures)
 
 pub raw-at-spec : {M : Type 1} → statement M
 raw-at-spec =
     tie.close
     (tie.spec
     (λ c. search needs)
-    slice-aggregate-raw-of
+    (λ c. sym (length-take-le _ _ (omega arith)))
     (λ c. search needs)
     (λ c. search needs)
     (λ c. search needs)
     (λ c. search needs)
     raw-of-requires
-    returns)
+    (λ c. rw rest at (c .raw-of .ensures)))

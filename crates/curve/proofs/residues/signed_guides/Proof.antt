@@ -20,9 +20,6 @@ loop-holds : tie.Need-loop-holds Inv-loop μ-loop
 unfolding put upto signedAt
 loop-holds c = (omega arith, c .raw-at .ensures, refl)
 
-put-vec-requires : tie.Need-put-vec-requires Inv-loop μ-loop
-put-vec-requires c κs = omega (arith, kept _ _ _ (c .before .before .loop .inv .2))
-
 raw-at-requires-2 : tie.Need-raw-at-requires-2 Inv-loop μ-loop
 raw-at-requires-2 c κs = (omega arith, omega arith, omega (arith, kept _ _ _ (c .before .before .before .put-vec .ensures), kept _ _ _ (c .before .before .before .before .before .before .loop .inv .2)))
 
@@ -31,9 +28,6 @@ loop-again c =
     let loop = c .before .before .before .before .before .before .before .before .loop in
     let p = signed-put _ _ _ (loop .i) (loop .inv .1) (loop .inv .2) (c .before .before .before .before .before .put-vec .ensures) in
     (omega arith, signed-step _ (loop .i) (loop .inv .1) (c .before .raw-at2 .ensures ∙ raw-still _ _ _ _ (loop .i + 1) (loop .i + 1) (λ _. refl) p (omega arith)) (c .agreeing .ensures), p)
-
-put-vec-requires-2 : tie.Need-put-vec-requires-2 Inv-loop μ-loop
-put-vec-requires-2 c κs = omega (arith, kept _ _ _ (c .before .before .loop .inv .2))
 
 same-length : tie.Need-same-length Inv-loop μ-loop
 same-length c =
@@ -57,7 +51,7 @@ signed-guides-spec =
     (λ c. search needs)
     (λ c. search needs)
     (λ c. search needs)
-    put-vec-requires
+    (λ c κs. omega (arith, kept _ _ _ (c .before .before .loop .inv .2)))
     (λ c. search needs)
     raw-at-requires-2
     (λ c κs. search needs)
@@ -67,6 +61,6 @@ signed-guides-spec =
     (λ c. search needs)
     (λ c. search needs)
     (λ c. search needs)
-    put-vec-requires-2
+    (λ c κs. omega (arith, kept _ _ _ (c .before .before .loop .inv .2)))
     same-length
     returns)

@@ -6,9 +6,6 @@ use Rattle.curve.proofs.samples.after.Tie as tie
 returns : tie.Need-returns
 returns c = rw (eq-eqb _ _ (c .before .before .if1 .taken), c .add .ensures, c .before .sub .ensures)
 
-returns-2 : tie.Need-returns-2
-returns-2 c = rw (ne-eqb _ _ (c .before .if1 .left)) (c .get-vec .ensures)
-
 pub after-spec : {M : Type 1} → statement M
 after-spec =
     tie.close
@@ -19,4 +16,4 @@ after-spec =
     returns
     (λ c. search needs)
     (λ c κs. search needs)
-    returns-2)
+    (λ c. rw (ne-eqb _ _ (c .before .if1 .left)) (c .get-vec .ensures)))

@@ -6,8 +6,5 @@ use Rattle.curve.proofs.smooth.after.Tie as tie
 returns : tie.Need-returns
 returns c = (rw (lt-ltb _ _ (c .if1 .taken)), search needs, search needs)
 
-returns-2 : tie.Need-returns-2
-returns-2 c = (rw (le-ltb _ _ (c .if1 .left)), search needs, search needs)
-
 pub after-spec : {M : Type 1} → statement M
-after-spec = tie.close (tie.spec (λ c. search needs) (λ c. search needs) returns returns-2)
+after-spec = tie.close (tie.spec (λ c. search needs) (λ c. search needs) returns (λ c. (rw (le-ltb _ _ (c .if1 .left)), search needs, search needs)))

@@ -20,9 +20,6 @@ loop-holds : tie.Need-loop-holds Inv-loop μ-loop
 unfolding put upto
 loop-holds c = (omega arith, c .get-vec .ensures, refl)
 
-get-vec-requires-2 : tie.Need-get-vec-requires-2 Inv-loop μ-loop
-get-vec-requires-2 c κs = omega (arith, kept _ _ _ (c .before .before .loop .inv .2))
-
 get-vec-requires-3 : tie.Need-get-vec-requires-3 Inv-loop μ-loop
 get-vec-requires-3 c κs = omega (arith, kept _ _ _ (c .before .before .before .before .before .loop .inv .2))
 
@@ -36,9 +33,6 @@ loop-again c =
     let s = guide-step _ _ (loop .i) (after .result) (loop .inv .2) (loop .inv .1) (c .before .before .before .before .before .before .before .before .get-vec2 .ensures) (c .before .before .before .before .before .get-vec3 .ensures) (after .ensures .0) (after .ensures .2) (c .before .before .before .smooth-guide .ensures) (c .before .before .put-vec .ensures) in
     (omega arith, s .0, s .1)
 
-same-length : tie.Need-same-length Inv-loop μ-loop
-same-length c = kept _ _ _ (c .before .loop .inv .2)
-
 returns : tie.Need-returns Inv-loop μ-loop
 unfolding guidePass
 returns c = whole _ _ (c .before .loop .i) _ (λ _. refl) (c .before .loop .inv .2) (search needs) (omega arith)
@@ -51,7 +45,7 @@ guide-pass-spec =
     μ-loop
     (λ c κs. search needs)
     loop-holds
-    get-vec-requires-2
+    (λ c κs. omega (arith, kept _ _ _ (c .before .before .loop .inv .2)))
     (λ c κs. search needs)
     get-vec-requires-3
     (λ c. search needs)
@@ -60,5 +54,5 @@ guide-pass-spec =
     (λ c. search needs)
     (λ c. search needs)
     loop-again
-    same-length
+    (λ c. kept _ _ _ (c .before .loop .inv .2))
     returns)

@@ -20,9 +20,6 @@ loop-holds : tie.Need-loop-holds Inv-loop μ-loop
 unfolding put upto
 loop-holds c = (omega arith, c .get-vec .ensures, refl)
 
-get-vec-requires-2 : tie.Need-get-vec-requires-2 Inv-loop μ-loop
-get-vec-requires-2 c κs = omega (arith, kept _ _ _ (c .before .before .loop .inv .2))
-
 get-vec-requires-3 : tie.Need-get-vec-requires-3 Inv-loop μ-loop
 get-vec-requires-3 c κs = omega (arith, kept _ _ _ (c .before .before .before .before .loop .inv .2))
 
@@ -34,9 +31,6 @@ loop-again c =
     let loop = c .before .before .before .before .before .before .before .before .before .before .loop in
     let s = point-step _ (loop .i) (loop .inv .2) (loop .inv .1) (c .before .before .before .before .before .before .before .get-vec2 .ensures) (c .before .before .before .before .before .get-vec3 .ensures) (c .before .before .before .smooth-position .ensures) (c .before .before .put-vec .ensures) in
     (omega arith, s .0, s .1)
-
-same-length : tie.Need-same-length Inv-loop μ-loop
-same-length c = kept _ _ _ (c .before .loop .inv .2)
 
 returns : tie.Need-returns Inv-loop μ-loop
 unfolding positionPass
@@ -53,7 +47,7 @@ position-pass-spec =
     loop-holds
     (λ c. search needs)
     (λ c. search needs)
-    get-vec-requires-2
+    (λ c κs. omega (arith, kept _ _ _ (c .before .before .loop .inv .2)))
     (λ c. search needs)
     get-vec-requires-3
     (λ c. search needs)
@@ -63,5 +57,5 @@ position-pass-spec =
     (λ c. search needs)
     (λ c. search needs)
     loop-again
-    same-length
+    (λ c. kept _ _ _ (c .before .loop .inv .2))
     returns)

@@ -27,9 +27,6 @@ loop-again c =
     let loop = c .before .before .before .before .before .loop in
     (omega arith, ap length (c .before .before .guide-pass .ensures) ∙ length-guides (vectors (now (c .before .before .before .before .before .before .before .args .list))) (loop .list) ∙ sym (c .before .before .before .before .before .before .before .pre .whole), again _ (loop .k) _ (c .before .before .guide-pass .ensures) (loop .inv .2))
 
-same-length : tie.Need-same-length Inv-loop μ-loop
-same-length c = c .before .loop .inv .1
-
 returns : tie.Need-returns Inv-loop μ-loop
 unfolding smoothGuides
 returns c = let e : c .before .loop .k ≡ c .before .before .before .args .passes = omega arith in
@@ -46,5 +43,5 @@ smooth-guides-spec =
     (λ c. search needs)
     (λ c. search needs)
     loop-again
-    same-length
+    (λ c. c .before .loop .inv .1)
     returns)

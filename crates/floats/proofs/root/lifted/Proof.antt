@@ -13,9 +13,6 @@ whole m s a b c = omega arith
 power : (m s : ℕ) → 2 ^ 23 ≤ m → m < 2 ^ 24 → s ≤ 23 → ((127 - s) * 2 ^ 23 + m) / 2 ^ 23 ≡ 128 - s
 power m s a b c = omega arith
 
-sub-s : tie.Need-sub-s
-sub-s c = lift-ge (c .before .args .b) (omega arith) (omega arith)
-
 cast-result : tie.Need-cast-result
 cast-result c = omega (arith, lift-le (c .before .args .b) (omega arith) (omega arith))
 
@@ -52,7 +49,7 @@ pub lifted-spec : {M : Type 1} → statement M
 lifted-spec =
     tie.close
     (tie.spec
-    sub-s
+    (λ c. lift-ge (c .before .args .b) (omega arith) (omega arith))
     cast-result
     sub-result
     (λ c. search needs)

@@ -18,9 +18,6 @@ back x t = ap (λ (y : Float). toBits binary32 (root binary32 y)) (ofBits-toBits
 returns : tie.Need-returns
 returns c = zero-over-zero ∙ sym (ap (root binary32) (differs (c .before .args .x) (c .if1 .taken)) ∙ root-nan binary32)
 
-float-to-bits-root-bits : tie.Need-float-to-bits-root-bits
-float-to-bits-root-bits c = same-no-nan (c .before .args .x) (c .if1 .left)
-
 returns-2 : tie.Need-returns-2
 returns-2 c =
     let p = c .before .before .before .args .x in
@@ -41,7 +38,7 @@ square-root-spec =
     tie.close
     (tie.spec
     returns
-    float-to-bits-root-bits
+    (λ c. same-no-nan (c .before .args .x) (c .if1 .left))
     (λ c κs. search needs)
     returns-2
     float-from-bits-result

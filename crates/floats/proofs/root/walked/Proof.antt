@@ -33,47 +33,14 @@ some n zero h k = absurd (none n h k)
     none n a b = omega arith
 some n (suc r) h k = zero-lt-suc r
 
-loop-holds : tie.Need-loop-holds Inv-loop μ-loop Inv-loop2 μ-loop2
-loop-holds c = omega arith
-
-add-loop : tie.Need-add-loop Inv-loop μ-loop Inv-loop2 μ-loop2
-add-loop c = omega arith
-
-mul-loop : tie.Need-mul-loop Inv-loop μ-loop Inv-loop2 μ-loop2
-mul-loop c = omega (arith, sq-le (c .loop .r) (c .loop .inv))
-
 sub-r : tie.Need-sub-r Inv-loop μ-loop Inv-loop2 μ-loop2
 sub-r c = some (c .before .before .args .n) (c .before .loop .r) (c .before .before .pre .0) (c .loop-test .taken)
-
-loop-less : tie.Need-loop-less Inv-loop μ-loop Inv-loop2 μ-loop2
-loop-less c = omega (arith, sub-r c)
-
-loop-again : tie.Need-loop-again Inv-loop μ-loop Inv-loop2 μ-loop2
-loop-again c = omega arith
 
 loop2-holds : tie.Need-loop2-holds Inv-loop μ-loop Inv-loop2 μ-loop2
 loop2-holds c = omega (arith, near-le (c .before .before .args .n) (c .before .loop .r) (omega arith) (c .loop-test .left))
 
-mul-loop2 : tie.Need-mul-loop2 Inv-loop μ-loop Inv-loop2 μ-loop2
-mul-loop2 c = omega (arith, sq-le (c .loop2 .r) (omega arith))
-
-add-loop2 : tie.Need-add-loop2 Inv-loop μ-loop Inv-loop2 μ-loop2
-add-loop2 c = omega (arith, sq-le (c .loop2 .r) (omega arith))
-
-add-r : tie.Need-add-r Inv-loop μ-loop Inv-loop2 μ-loop2
-add-r c = omega arith
-
 room : (c : tie.In-loop2 Inv-loop μ-loop Inv-loop2 μ-loop2) → c .before .loop2 .r < 2 ^ 24
 room c = sq-room (c .before .before .before .before .args .n) (c .before .loop2 .r) (c .before .before .before .before .pre .1) (c .loop2-test .taken)
-
-loop2-less : tie.Need-loop2-less Inv-loop μ-loop Inv-loop2 μ-loop2
-loop2-less c = omega (arith, room c)
-
-loop2-again : tie.Need-loop2-again Inv-loop μ-loop Inv-loop2 μ-loop2
-loop2-again c = omega (arith, room c, sq-next (c .before .loop2 .r))
-
-returns : tie.Need-returns Inv-loop μ-loop Inv-loop2 μ-loop2
-returns c = omega arith
 
 pub walked-spec : {M : Type 1} → statement M
 walked-spec =
@@ -83,16 +50,16 @@ walked-spec =
     μ-loop
     Inv-loop2
     μ-loop2
-    loop-holds
-    add-loop
-    mul-loop
+    (λ c. omega arith)
+    (λ c. omega arith)
+    (λ c. omega (arith, sq-le (c .loop .r) (c .loop .inv)))
     sub-r
-    loop-less
-    loop-again
+    (λ c. omega (arith, sub-r c))
+    (λ c. omega arith)
     loop2-holds
-    mul-loop2
-    add-loop2
-    add-r
-    loop2-less
-    loop2-again
-    returns)
+    (λ c. omega (arith, sq-le (c .loop2 .r) (omega arith)))
+    (λ c. omega (arith, sq-le (c .loop2 .r) (omega arith)))
+    (λ c. omega arith)
+    (λ c. omega (arith, room c))
+    (λ c. omega (arith, room c, sq-next (c .before .loop2 .r)))
+    (λ c. omega arith))

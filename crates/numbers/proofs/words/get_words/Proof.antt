@@ -19,35 +19,8 @@ loop-holds : tie.Need-loop-holds Inv-loop μ-loop
 unfolding put upto
 loop-holds c = (omega arith, refl)
 
-mul-u32-at : tie.Need-mul-u32-at Inv-loop μ-loop
-mul-u32-at c = omega (arith, kept _ _ _ (c .before .loop .inv .1))
-
-add-u32-at : tie.Need-add-u32-at Inv-loop μ-loop
-add-u32-at c = omega (arith, kept _ _ _ (c .before .loop .inv .1))
-
-u32-at-requires : tie.Need-u32-at-requires Inv-loop μ-loop
-u32-at-requires c κs = omega (arith, kept _ _ _ (c .before .loop .inv .1))
-
-cast-w : tie.Need-cast-w Inv-loop μ-loop
-cast-w c = omega arith
-
-mul-w : tie.Need-mul-w Inv-loop μ-loop
-mul-w c = omega (arith, kept _ _ _ (c .before .before .loop .inv .1))
-
-slice-write-w : tie.Need-slice-write-w Inv-loop μ-loop
-slice-write-w c = omega (arith, kept _ _ _ (c .before .before .loop .inv .1))
-
-add-i : tie.Need-add-i Inv-loop μ-loop
-add-i c = omega (arith, kept _ _ _ (c .before .before .loop .inv .1))
-
-loop-less : tie.Need-loop-less Inv-loop μ-loop
-loop-less c = omega (arith, kept _ _ _ (c .before .before .loop .inv .1))
-
 loop-again : tie.Need-loop-again Inv-loop μ-loop
 loop-again c = (omega (arith, kept _ _ _ (c .before .before .loop .inv .1)), set-turn (λ (k : ℕ). u32At (c .before .before .before .before .before .args .b .now) ((c .before .before .before .before .before .args .at) + k * 4)) _ 0 _ _ (c .before .before .loop .inv .1) (c .u32-at .ensures .0) (omega arith))
-
-same-length : tie.Need-same-length Inv-loop μ-loop
-same-length c = kept _ _ _ (c .before .loop .inv .1)
 
 returns : tie.Need-returns Inv-loop μ-loop
 returns c = let e : c .before .loop .i ≡ length (c .before .before .before .before .args .w .now) = omega (arith, kept _ _ _ (c .before .loop .inv .1)) in c .before .loop .inv .1 ∙ rw e
@@ -59,14 +32,14 @@ get-words-spec =
     Inv-loop
     μ-loop
     loop-holds
-    mul-u32-at
-    add-u32-at
-    u32-at-requires
-    cast-w
-    mul-w
-    slice-write-w
-    add-i
-    loop-less
+    (λ c. omega (arith, kept _ _ _ (c .before .loop .inv .1)))
+    (λ c. omega (arith, kept _ _ _ (c .before .loop .inv .1)))
+    (λ c κs. omega (arith, kept _ _ _ (c .before .loop .inv .1)))
+    (λ c. omega arith)
+    (λ c. omega (arith, kept _ _ _ (c .before .before .loop .inv .1)))
+    (λ c. omega (arith, kept _ _ _ (c .before .before .loop .inv .1)))
+    (λ c. omega (arith, kept _ _ _ (c .before .before .loop .inv .1)))
+    (λ c. omega (arith, kept _ _ _ (c .before .before .loop .inv .1)))
     loop-again
-    same-length
+    (λ c. kept _ _ _ (c .before .loop .inv .1))
     returns)

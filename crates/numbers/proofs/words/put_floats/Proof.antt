@@ -20,36 +20,12 @@ loop-holds : tie.Need-loop-holds Inv-loop μ-loop
 unfolding put upto floatBytes
 loop-holds c = (omega arith, refl)
 
-mul-put-word : tie.Need-mul-put-word Inv-loop μ-loop
-mul-put-word c = omega arith
-
-add-put-word : tie.Need-add-put-word Inv-loop μ-loop
-add-put-word c = omega arith
-
-mul-float-word : tie.Need-mul-float-word Inv-loop μ-loop
-mul-float-word c = omega arith
-
-shared-slice-read-float-word : tie.Need-shared-slice-read-float-word Inv-loop μ-loop
-shared-slice-read-float-word c = omega arith
-
-float-word-requires : tie.Need-float-word-requires Inv-loop μ-loop
-float-word-requires c κs = tt
-
 put-word-requires : tie.Need-put-word-requires Inv-loop μ-loop
 put-word-requires c κs = omega (arith, kept _ _ _ (c .before .before .before .before .loop .inv .1))
-
-add-i : tie.Need-add-i Inv-loop μ-loop
-add-i c = omega arith
-
-loop-less : tie.Need-loop-less Inv-loop μ-loop
-loop-less c = omega arith
 
 loop-again : tie.Need-loop-again Inv-loop μ-loop
 unfolding floatBytes u32 u16
 loop-again c = (omega arith, turn (λ (k : ℕ). u32 (toBits binary32 (getD (c .before .before .before .before .before .before .before .before .before .before .args .f .now) k nan))) 4 (λ k. refl) _ _ _ _ (c .before .before .put-word .ensures ∙ rw (c .before .before .before .float-word .ensures)) (c .before .before .before .before .before .before .before .loop .inv .1) refl)
-
-same-length : tie.Need-same-length Inv-loop μ-loop
-same-length c = kept _ _ _ (c .before .loop .inv .1)
 
 returns : tie.Need-returns Inv-loop μ-loop
 returns c = let e : c .before .loop .i ≡ length (c .before .before .before .before .args .f .now) = omega arith in c .before .loop .inv .1 ∙ rw e
@@ -61,14 +37,14 @@ put-floats-spec =
     Inv-loop
     μ-loop
     loop-holds
-    mul-put-word
-    add-put-word
-    mul-float-word
-    shared-slice-read-float-word
-    float-word-requires
+    (λ c. omega arith)
+    (λ c. omega arith)
+    (λ c. omega arith)
+    (λ c. omega arith)
+    (λ c κs. tt)
     put-word-requires
-    add-i
-    loop-less
+    (λ c. omega arith)
+    (λ c. omega arith)
     loop-again
-    same-length
+    (λ c. kept _ _ _ (c .before .loop .inv .1))
     returns)

@@ -16,12 +16,6 @@ abbrev μ-loop : tie.MeasureT-loop
 loop-holds : tie.Need-loop-holds Inv-loop μ-loop
 loop-holds c = writing-start _ _ _ _ (omega arith) (c .before .before .pre .2) (c .before .before .pre .3)
 
-step-requires : tie.Need-step-requires Inv-loop μ-loop
-step-requires c κs = c .loop .inv .inside
-
-same-length : tie.Need-same-length Inv-loop μ-loop
-same-length c = c .before .before .before .loop .inv .same
-
 returns : tie.Need-returns Inv-loop μ-loop
 returns c = writing-over _ _ _ _ _ _ _ _ (c .before .before .before .loop .inv) (stepped-done _ _ _ _ (c .before .before .step .ensures) (c .enum-told .given .1))
 
@@ -49,10 +43,10 @@ write-records-spec =
     Inv-loop
     μ-loop
     loop-holds
-    step-requires
+    (λ c κs. c .loop .inv .inside)
     (λ c. search needs)
     (λ c. search needs)
-    same-length
+    (λ c. c .before .before .before .loop .inv .same)
     returns
     write-record-requires
     loop-less

@@ -11,16 +11,13 @@ Inv-loop s n at₀ line₀ at line = (at ≤ length s) × (line ≤ at + 1)
 abbrev μ-loop : tie.MeasureT-loop
 μ-loop s n at₀ line₀ at line = length s - at
 
-loop-holds : tie.Need-loop-holds Inv-loop μ-loop
-loop-holds c = (omega arith, omega arith)
-
 pub place-of-spec : {M : Type 1} → statement M
 place-of-spec =
     tie.close
     (tie.spec
     Inv-loop
     μ-loop
-    loop-holds
+    (λ c. (omega arith, omega arith))
     (λ c κs. search needs)
     (λ c. search needs)
     (λ c. search needs)

@@ -13,12 +13,6 @@ Inv-loop s w keys₀ links₀ n tell at₀ seen₀ m₀ keys links at seen m = G
 abbrev μ-loop : tie.MeasureT-loop
 μ-loop s w keys₀ links₀ n tell at₀ seen₀ m₀ keys links at seen m = length s - at
 
-loop-holds : tie.Need-loop-holds Inv-loop μ-loop
-loop-holds c = gathering-start _ _ _ _ _ (c .before .pre)
-
-next-line-requires : tie.Need-next-line-requires Inv-loop μ-loop
-next-line-requires c κs = c .loop .inv .inside
-
 returns : tie.Need-returns Inv-loop μ-loop
 returns c =
     let inv = c .before .before .before .loop .inv in
@@ -59,8 +53,8 @@ gather-spec =
     (tie.spec
     Inv-loop
     μ-loop
-    loop-holds
-    next-line-requires
+    (λ c. gathering-start _ _ _ _ _ (c .before .pre))
+    (λ c κs. c .loop .inv .inside)
     (λ c. search needs)
     (λ c. search needs)
     returns

@@ -13,9 +13,6 @@ Inv-loop l tight text₀ n₀ i₀ text n i = (n ≤ 80) × (i ≤ length l) × 
 abbrev μ-loop : tie.MeasureT-loop
 μ-loop l tight text₀ n₀ i₀ text n i = length l - i
 
-loop-holds : tie.Need-loop-holds Inv-loop μ-loop
-loop-holds c = (omega arith, omega arith, refl)
-
 put-shown-requires : tie.Need-put-shown-requires Inv-loop μ-loop
 put-shown-requires c κs = (c .before .before .before .loop .inv .0, c .before .before .before .loop .inv .2)
 
@@ -34,7 +31,7 @@ say-bytes-spec =
     (tie.spec
     Inv-loop
     μ-loop
-    loop-holds
+    (λ c. (omega arith, omega arith, refl))
     (λ c. search needs)
     put-shown-requires
     (λ c. search needs)

@@ -26,9 +26,6 @@ put-vec-requires c κs = omega (arith, kept _ _ _ (c .before .before .before .lo
 loop-again : tie.Need-loop-again Inv-loop μ-loop
 loop-again c = (omega arith, turn _ 3 (λ _. refl) _ _ _ (c .before .before .before .before .before .before .loop .k) (c .before .before .put-vec .ensures) (c .before .before .before .before .before .before .loop .inv .1) (omega arith))
 
-same-length : tie.Need-same-length Inv-loop μ-loop
-same-length c = kept _ _ _ (c .before .loop .inv .1)
-
 returns : tie.Need-returns Inv-loop μ-loop
 unfolding eight
 returns c = let e : c .before .loop .k ≡ 8 = omega arith in
@@ -49,5 +46,5 @@ put-eight-spec =
     (λ c. search needs)
     (λ c. search needs)
     loop-again
-    same-length
+    (λ c. kept _ _ _ (c .before .loop .inv .1))
     returns)

@@ -18,14 +18,8 @@ loop-holds : tie.Need-loop-holds Inv-loop μ-loop
 unfolding put upto
 loop-holds c = (omega arith, refl)
 
-slice-write-out : tie.Need-slice-write-out Inv-loop μ-loop
-slice-write-out c = omega (arith, kept _ _ _ (c .before .loop .inv .1))
-
 loop-again : tie.Need-loop-again Inv-loop μ-loop
 loop-again c = (omega arith, set-turn (λ _. c .before .before .args .tag) _ _ _ (c .before .loop .k) (c .before .loop .inv .1) refl refl)
-
-same-length : tie.Need-same-length Inv-loop μ-loop
-same-length c = kept _ _ _ (c .before .loop .inv .1)
 
 returns : tie.Need-returns Inv-loop μ-loop
 unfolding put upto
@@ -41,9 +35,9 @@ put-tags-spec =
     loop-holds
     (λ c. search needs)
     (λ c. search needs)
-    slice-write-out
+    (λ c. omega (arith, kept _ _ _ (c .before .loop .inv .1)))
     (λ c. search needs)
     (λ c. search needs)
     loop-again
-    same-length
+    (λ c. kept _ _ _ (c .before .loop .inv .1))
     returns)

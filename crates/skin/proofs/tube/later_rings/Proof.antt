@@ -51,15 +51,6 @@ loop-again c =
     let step : (j : ℕ) → s + 1 + j ≡ s + j + 1 = λ j. omega arith in
     (omega (arith, loop, c .before .before .before .before .before .before .before .before .before .before .loop-test, c .before .before .before .before .before .before .before .before .before .before .before .before .before .before .before .before .before), omega (arith, loop, c .before .before .before .before .before .before .before .before .before .before .loop-test, c .before .before .before .before .before .before .before .before .before .before .before .before .before .before .before .before .before), wrote-more _ _ _ _ _ _ 8 (λ s. length-positions kind p g n (s + 1)) (λ s. length-normals kind p g n (s + 1)) (λ s. length-tags first n (s + 1)) _ _ s _ (λ j. ap (ringPositions kind p g n) (step j)) (λ j. ap (ringNormals kind p g n) (step j)) (λ j. ap (ringTags first n) (step j)) (c .before .before .before .before .before .before .span-rings .ensures) (loop .inv .2) (loop .inv .1))
 
-same-length : tie.Need-same-length Inv-loop μ-loop
-same-length c = kept _ _ _ (c .before .loop .inv .2 .pos)
-
-same-length-2 : tie.Need-same-length-2 Inv-loop μ-loop
-same-length-2 c = kept _ _ _ (c .before .loop .inv .2 .norm)
-
-same-length-3 : tie.Need-same-length-3 Inv-loop μ-loop
-same-length-3 c = kept _ _ _ (c .before .loop .inv .2 .tag)
-
 returns : tie.Need-returns Inv-loop μ-loop
 returns c = let e : c .before .loop .s ≡ 8 * (c .before .before .before .before .before .before .before .args .n - 1) - 1 = omega arith in
     rw e at (c .before .loop .inv .2)
@@ -82,7 +73,7 @@ later-rings-spec =
     add-at
     loop-less
     loop-again
-    same-length
-    same-length-2
-    same-length-3
+    (λ c. kept _ _ _ (c .before .loop .inv .2 .pos))
+    (λ c. kept _ _ _ (c .before .loop .inv .2 .norm))
+    (λ c. kept _ _ _ (c .before .loop .inv .2 .tag))
     returns)

@@ -54,15 +54,6 @@ loop-again c =
     let f = on-span p g n from (loop .j) (omega (arith, loop, c .before .before .before .before .before .before .before .before .before .before .before .before .before .before .before .loop-test, c .before .before .before .before .before .before .before .before .before .before .before .before .before .before .before .before .before .before .before .before .before .before .before .before .before)) (c .before .before .before .before .before .before .before .before .before .before .before .before .before .before .before .before .before .before .before .before .before .before .before .before .before .pre .1 .1) (c .before .before .before .before .before .before .before .before .before .before .before .before .before .before .before .before .before .before .before .span .ensures) (c .before .before .before .before .before .before .before .before .before .before .before .before .before .before .before .before .before .before .get-vec .ensures) (c .before .before .before .before .before .before .before .before .before .before .before .before .before .before .before .before .before .get-vec2 .ensures) (c .before .before .before .before .before .before .before .before .before .before .before .before .before .before .param-at .ensures) (c .before .before .before .before .before .before .before .before .before .before .before .before .before .between .ensures) (c .before .before .before .before .before .before .before .before .before .before .before .before .frame .ensures) in
     (omega (arith, loop, c .before .before .before .before .before .before .before .before .before .before .before .before .before .before .before .loop-test, c .before .before .before .before .before .before .before .before .before .before .before .before .before .before .before .before .before .before .before .before .before .before .before .before .before), omega (arith, loop), wrote-turn _ _ _ 8 (λ j. length-positions (args .kind) p g n (from + j)) (λ j. length-normals (args .kind) p g n (from + j)) (λ j. length-tags (args .first) n (from + j)) _ _ (loop .j) (rw (c .before .before .before .before .before .before .before .before .before .before .before .ring .ensures, f, c .before .before .before .before .before .before .before .tag-at .ensures) at (c .before .before .before .before .before .before .put-ring .ensures)) (loop .inv .2) (loop .inv .1))
 
-same-length : tie.Need-same-length Inv-loop μ-loop
-same-length c = kept _ _ _ (c .before .loop .inv .2 .pos)
-
-same-length-2 : tie.Need-same-length-2 Inv-loop μ-loop
-same-length-2 c = kept _ _ _ (c .before .loop .inv .2 .norm)
-
-same-length-3 : tie.Need-same-length-3 Inv-loop μ-loop
-same-length-3 c = kept _ _ _ (c .before .loop .inv .2 .tag)
-
 returns : tie.Need-returns Inv-loop μ-loop
 returns c = let e : c .before .loop .j ≡ c .before .before .before .before .before .before .before .before .before .before .args .count = omega arith in
     rw e at (c .before .loop .inv .2)
@@ -89,7 +80,7 @@ span-rings-spec =
     add-at
     loop-less
     loop-again
-    same-length
-    same-length-2
-    same-length-3
+    (λ c. kept _ _ _ (c .before .loop .inv .2 .pos))
+    (λ c. kept _ _ _ (c .before .loop .inv .2 .norm))
+    (λ c. kept _ _ _ (c .before .loop .inv .2 .tag))
     returns)

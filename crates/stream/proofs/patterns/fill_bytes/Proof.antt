@@ -19,26 +19,8 @@ loop-holds : tie.Need-loop-holds Inv-loop μ-loop
 unfolding put upto
 loop-holds c = (omega arith, refl)
 
-add-b : tie.Need-add-b Inv-loop μ-loop
-add-b c = omega (arith, kept _ _ _ (c .before .loop .inv .1))
-
-cast-b : tie.Need-cast-b Inv-loop μ-loop
-cast-b c = omega arith
-
-slice-write-b : tie.Need-slice-write-b Inv-loop μ-loop
-slice-write-b c = omega (arith, kept _ _ _ (c .before .loop .inv .1))
-
-add-i : tie.Need-add-i Inv-loop μ-loop
-add-i c = omega (arith, kept _ _ _ (c .before .loop .inv .1))
-
-loop-less : tie.Need-loop-less Inv-loop μ-loop
-loop-less c = omega (arith, kept _ _ _ (c .before .loop .inv .1))
-
 loop-again : tie.Need-loop-again Inv-loop μ-loop
 loop-again c = (omega (arith, kept _ _ _ (c .before .loop .inv .1)), set-turn bytePattern _ 0 _ _ (c .before .loop .inv .1) refl (omega arith))
-
-same-length : tie.Need-same-length Inv-loop μ-loop
-same-length c = kept _ _ _ (c .before .loop .inv .1)
 
 returns : tie.Need-returns Inv-loop μ-loop
 returns c = let e : c .before .loop .i ≡ length (c .before .before .args .b .now) = omega (arith, kept _ _ _ (c .before .loop .inv .1)) in c .before .loop .inv .1 ∙ rw e
@@ -50,11 +32,11 @@ fill-bytes-spec =
     Inv-loop
     μ-loop
     loop-holds
-    add-b
-    cast-b
-    slice-write-b
-    add-i
-    loop-less
+    (λ c. omega (arith, kept _ _ _ (c .before .loop .inv .1)))
+    (λ c. omega arith)
+    (λ c. omega (arith, kept _ _ _ (c .before .loop .inv .1)))
+    (λ c. omega (arith, kept _ _ _ (c .before .loop .inv .1)))
+    (λ c. omega (arith, kept _ _ _ (c .before .loop .inv .1)))
     loop-again
-    same-length
+    (λ c. kept _ _ _ (c .before .loop .inv .1))
     returns)

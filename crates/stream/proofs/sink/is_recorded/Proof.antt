@@ -6,15 +6,6 @@ use borrow.Author.Needs.{needs}
 use Rattle.stream.proofs.sink.is_recorded.Statement.{statement}
 use Rattle.stream.proofs.sink.is_recorded.Tie as tie
 
-slice-aggregate-read-full : tie.Need-slice-aggregate-read-full
-slice-aggregate-read-full c = sym (length-take-le _ _ (omega arith))
-
-array-share-prefix-there : tie.Need-array-share-prefix-there
-array-share-prefix-there c = simp length-append (omega arith)
-
-slice-aggregate-same : tie.Need-slice-aggregate-same
-slice-aggregate-same c = sym (length-take-le _ _ (simp length-append (omega arith)))
-
 pub is-recorded-spec : {M : Type 1} → statement M
 is-recorded-spec =
     tie.close
@@ -22,10 +13,10 @@ is-recorded-spec =
     (λ c κs. search needs)
     (λ c. search needs)
     (λ c. search needs)
-    slice-aggregate-read-full
+    (λ c. sym (length-take-le _ _ (omega arith)))
     (λ c κs. search needs)
     (λ c. search needs)
-    array-share-prefix-there
-    slice-aggregate-same
+    (λ c. simp length-append (omega arith))
+    (λ c. sym (length-take-le _ _ (simp length-append (omega arith))))
     (λ c κs. search needs)
     (λ c. search needs))

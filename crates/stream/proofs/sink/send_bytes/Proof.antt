@@ -14,41 +14,11 @@ Inv-loop out₀ b t₀ i₀ out t i = (i ≤ length b) × (length out ≡ length
 abbrev μ-loop : tie.MeasureT-loop
 μ-loop out₀ b t₀ i₀ out t i = length b - i
 
-loop-holds : tie.Need-loop-holds Inv-loop μ-loop
-loop-holds c = (omega arith, refl, c .before .before .pre)
-
-sub-least : tie.Need-sub-least Inv-loop μ-loop
-sub-least c = omega arith
-
-sub-least-2 : tie.Need-sub-least-2 Inv-loop μ-loop
-sub-least-2 c = omega arith
-
-least-requires : tie.Need-least-requires Inv-loop μ-loop
-least-requires c κs = tt
-
-add-end : tie.Need-add-end Inv-loop μ-loop
-add-end c = omega arith
-
-sub-put-bytes : tie.Need-sub-put-bytes Inv-loop μ-loop
-sub-put-bytes c = omega arith
-
-put-bytes-requires : tie.Need-put-bytes-requires Inv-loop μ-loop
-put-bytes-requires c κs = simp (length-take, length-drop) (omega arith)
-
 advance-requires : tie.Need-advance-requires Inv-loop μ-loop
 advance-requires c κs = (omega (arith, kept _ _ _ (c .before .before .before .put-bytes .ensures)), omega (arith, kept _ _ _ (c .before .before .before .put-bytes .ensures)))
 
-loop-less : tie.Need-loop-less Inv-loop μ-loop
-loop-less c = omega arith
-
 loop-again : tie.Need-loop-again Inv-loop μ-loop
 loop-again c = (omega arith, kept _ _ _ (c .before .before .before .before .put-bytes .ensures) ∙ c .before .before .before .before .before .before .before .before .before .loop .inv .1, omega (arith, kept _ _ _ (c .before .before .before .before .put-bytes .ensures), c .advance .ensures))
-
-same-length : tie.Need-same-length Inv-loop μ-loop
-same-length c = c .before .loop .inv .1
-
-returns : tie.Need-returns Inv-loop μ-loop
-returns c = c .before .loop .inv .2
 
 pub send-bytes-spec : {M : Type 1} → statement M
 send-bytes-spec =
@@ -56,17 +26,17 @@ send-bytes-spec =
     (tie.spec
     Inv-loop
     μ-loop
-    loop-holds
-    sub-least
-    sub-least-2
-    least-requires
-    add-end
-    sub-put-bytes
+    (λ c. (omega arith, refl, c .before .before .pre))
+    (λ c. omega arith)
+    (λ c. omega arith)
+    (λ c κs. tt)
+    (λ c. omega arith)
+    (λ c. omega arith)
     (λ c. search needs)
     (λ c. search needs)
-    put-bytes-requires
+    (λ c κs. simp (length-take, length-drop) (omega arith))
     advance-requires
-    loop-less
+    (λ c. omega arith)
     loop-again
-    same-length
-    returns)
+    (λ c. c .before .loop .inv .1)
+    (λ c. c .before .loop .inv .2))

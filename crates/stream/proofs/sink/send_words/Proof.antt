@@ -14,47 +14,11 @@ Inv-loop out₀ w t₀ i₀ out t i = (i ≤ length w) × (length out ≡ length
 abbrev μ-loop : tie.MeasureT-loop
 μ-loop out₀ w t₀ i₀ out t i = length w - i
 
-loop-holds : tie.Need-loop-holds Inv-loop μ-loop
-loop-holds c = (omega arith, refl, c .before .before .pre)
-
-sub-least : tie.Need-sub-least Inv-loop μ-loop
-sub-least c = omega arith
-
-sub-least-2 : tie.Need-sub-least-2 Inv-loop μ-loop
-sub-least-2 c = omega arith
-
-least-requires : tie.Need-least-requires Inv-loop μ-loop
-least-requires c κs = tt
-
-add-end : tie.Need-add-end Inv-loop μ-loop
-add-end c = omega arith
-
-mul-put-words : tie.Need-mul-put-words Inv-loop μ-loop
-mul-put-words c = omega arith
-
-sub-put-words : tie.Need-sub-put-words Inv-loop μ-loop
-sub-put-words c = omega arith
-
-put-words-requires : tie.Need-put-words-requires Inv-loop μ-loop
-put-words-requires c κs = simp (length-take, length-drop) (omega arith)
-
-mul-advance : tie.Need-mul-advance Inv-loop μ-loop
-mul-advance c = omega arith
-
 advance-requires : tie.Need-advance-requires Inv-loop μ-loop
 advance-requires c κs = (omega (arith, kept _ _ _ (c .before .before .before .put-words .ensures)), omega (arith, kept _ _ _ (c .before .before .before .put-words .ensures)))
 
-loop-less : tie.Need-loop-less Inv-loop μ-loop
-loop-less c = omega arith
-
 loop-again : tie.Need-loop-again Inv-loop μ-loop
 loop-again c = (omega arith, kept _ _ _ (c .before .before .before .before .put-words .ensures) ∙ c .before .before .before .before .before .before .before .before .before .loop .inv .1, omega (arith, kept _ _ _ (c .before .before .before .before .put-words .ensures), c .advance .ensures))
-
-same-length : tie.Need-same-length Inv-loop μ-loop
-same-length c = c .before .loop .inv .1
-
-returns : tie.Need-returns Inv-loop μ-loop
-returns c = c .before .loop .inv .2
 
 pub send-words-spec : {M : Type 1} → statement M
 send-words-spec =
@@ -62,19 +26,19 @@ send-words-spec =
     (tie.spec
     Inv-loop
     μ-loop
-    loop-holds
-    sub-least
-    sub-least-2
-    least-requires
-    add-end
-    mul-put-words
-    sub-put-words
+    (λ c. (omega arith, refl, c .before .before .pre))
+    (λ c. omega arith)
+    (λ c. omega arith)
+    (λ c κs. tt)
+    (λ c. omega arith)
+    (λ c. omega arith)
+    (λ c. omega arith)
     (λ c. search needs)
     (λ c. search needs)
-    put-words-requires
-    mul-advance
+    (λ c κs. simp (length-take, length-drop) (omega arith))
+    (λ c. omega arith)
     advance-requires
-    loop-less
+    (λ c. omega arith)
     loop-again
-    same-length
-    returns)
+    (λ c. c .before .loop .inv .1)
+    (λ c. c .before .loop .inv .2))
