@@ -6,7 +6,7 @@ use Prim.Native.Nat.{ℕ, zero, suc, _+_, _*_, _-_, _≤_, _<_}
 use native.Mathlib.Nat.{eq-zero-or-pos}
 use native.Mathlib.Omega.{arith}
 use lib.ListN.{length, getD}
-use Rattle.edges.specs.Sound.{is, occurs, Each, CornersDiffer, Sound}
+use Rattle.edges.specs.Sound.{is, occurs, EachTriangle, CornersDiffer, Sound}
 use Rattle.edges.proofs.Count.{is-or, is-same}
 use Rattle.edges.proofs.Stack.{Closed}
 
@@ -65,12 +65,12 @@ past : (a b c : ℕ) (r : List ℕ) (k n : ℕ) → suc (suc (suc k)) ≡ n → 
 past a b c r k n e = ap (λ (i : ℕ). getD (a ∷ b ∷ c ∷ r) i 0) e
 
 module _ (P : ℕ → ℕ → ℕ → Type 0) where
-  each-cons : (a b c : ℕ) (r : List ℕ) → P a b c → Each P r → Each P (a ∷ b ∷ c ∷ r)
+  each-cons : (a b c : ℕ) (r : List ℕ) → P a b c → EachTriangle P r → EachTriangle P (a ∷ b ∷ c ∷ r)
   each-cons a b c r h rest zero l = h
   each-cons a b c r h rest (suc t) l =
       subst₃ P (past a b c r (3 * t) (3 * suc t) (omega arith)) (past a b c r (3 * t + 1) (3 * suc t + 1) (omega arith)) (past a b c r (3 * t + 2) (3 * suc t + 2) (omega arith)) (rest t (omega arith))
 
-  each-tail : (a b c : ℕ) (r : List ℕ) → Each P (a ∷ b ∷ c ∷ r) → Each P r
+  each-tail : (a b c : ℕ) (r : List ℕ) → EachTriangle P (a ∷ b ∷ c ∷ r) → EachTriangle P r
   each-tail a b c r all t l =
       subst₃ P (sym (past a b c r (3 * t) (3 * suc t) (omega arith))) (sym (past a b c r (3 * t + 1) (3 * suc t + 1) (omega arith))) (sym (past a b c r (3 * t + 2) (3 * suc t + 2) (omega arith)))
       (all (suc t) (omega arith))

@@ -8,7 +8,7 @@ use native.Mathlib.Nat.{eq-zero-or-pos}
 use native.Mathlib.Omega.{arith}
 use lib.ListN.{length, length-append, List·getD-append}
 use lib.Seq.{getD-append-add}
-use Rattle.edges.specs.Sound.{occurs, EdgesPaired, Sound, Part}
+use Rattle.edges.specs.Sound.{occurs, EdgesPaired, Sound, MeshPart}
 use Rattle.edges.specs.Tube.{stack}
 use Rattle.edges.proofs.Count.{lt-or-le, occurs-append}
 use Rattle.edges.proofs.Piece.{either, join}
@@ -50,10 +50,10 @@ glue o v w {t} {s} {l} {r} ov vw a b =
 -- ---- the edge rule by itself, of parts with no vertex in common
 
 -- both ends of an edge of a part are vertices of the part
-part-ends : {o v t : ℕ} {l : List ℕ} → Part o v t l → (x y : ℕ) → 0 < occurs x y l → ((o ≤ x) × (x < v)) × ((o ≤ y) × (y < v))
+part-ends : {o v t : ℕ} {l : List ℕ} → MeshPart o v t l → (x y : ℕ) → 0 < occurs x y l → ((o ≤ x) × (x < v)) × ((o ≤ y) × (y < v))
 part-ends {o} {v} {l} part x y h = ends (λ (u : ℕ). (o ≤ u) × (u < v)) x y l (part .within) h
 
-module _ {o v w t s : ℕ} {l r : List ℕ} (first : Part o v t l) (second : Part v w s r) where
+module _ {o v w t s : ℕ} {l r : List ℕ} (first : MeshPart o v t l) (second : MeshPart v w s r) where
   -- an edge of one part is none of the other
   apart : (x y : ℕ) → 0 < occurs x y l → (occurs x y r ≡ 0) × (occurs y x r ≡ 0)
   apart x y h =
@@ -86,7 +86,7 @@ module _ {o v w t s : ℕ} {l r : List ℕ} (first : Part o v t l) (second : Par
       (eq-zero-or-pos (occurs x y l))
 
   -- both parts are one
-  pub joined : o ≤ v → v ≤ w → Part o w (t + s) (l ++ r)
+  pub joined : o ≤ v → v ≤ w → MeshPart o w (t + s) (l ++ r)
   joined ov vw = record {
     size = length-append l r ∙ omega (arith, first .size, second .size);
     within = λ i h. ⊎-elim

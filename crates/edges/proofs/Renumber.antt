@@ -4,7 +4,7 @@ use mathlib.Core.List.{List, [], _∷_, map}
 use Prim.Native.Nat.{ℕ, zero, suc, _+_, _*_, _-_, _≤_, _<_}
 use native.Mathlib.Omega.{arith}
 use lib.ListN.{length, getD, length-map}
-use Rattle.edges.specs.Sound.{Edge, edges, CornersIn, EdgesPaired, Sound, Part}
+use Rattle.edges.specs.Sound.{Edge, edges, CornersIn, EdgesPaired, Sound, MeshPart}
 use Rattle.edges.specs.Tube.{renumbered}
 use Rattle.edges.proofs.Owned.{edge, length-edges, owned, paired}
 
@@ -48,7 +48,7 @@ renumber-within o v q l within i h =
     let e = length-map l f in
     omega (arith, map-at f l i (omega arith), within i (omega arith))
 
-pub renumber-part : (o v q : ℕ) {t : ℕ} {l : List ℕ} → Part o v t l → Part q (q + (v - o)) t (renumbered o q l)
+pub renumber-part : (o v q : ℕ) {t : ℕ} {l : List ℕ} → MeshPart o v t l → MeshPart q (q + (v - o)) t (renumbered o q l)
 renumber-part o v q {l} part = record { size = renumber-size o q l ∙ part .size; within = renumber-within o v q l (part .within) }
 
 pub renumber-paired : (o v q t : ℕ) (l : List ℕ) → length l ≡ 3 * t → CornersIn o v l → EdgesPaired l → EdgesPaired (renumbered o q l)

@@ -9,8 +9,8 @@ use native.Mathlib.Omega.{arith}
 use borrow.Author.Tests.{lt-ltb, le-ltb}
 use lib.ListN.{length, take, drop, length-append}
 use lib.Seq.{take-append-seam, drop-at}
-use Rattle.edges.specs.Sound.{occurs, EdgesPaired, Sound, Part}
-use Rattle.edges.specs.Tube.{rings, vertices, triangles, vertexCount, triangleCount, stack, tube, mesh, meshVertices, meshTriangles, renumbered}
+use Rattle.edges.specs.Sound.{occurs, EdgesPaired, Sound, MeshPart}
+use Rattle.edges.specs.Tube.{rings, vertices, triangles, vertexCount, triangleCount, stack, tube, mesh, vertexTotal, triangleTotal, renumbered}
 use Rattle.edges.proofs.Count.{lt-or-le}
 use Rattle.edges.proofs.Stack.{stack-size}
 use Rattle.edges.proofs.Glue.{recount, empty-sound, stack-sound, glue, glue-paired, unglue, unglue-sound, joined}
@@ -76,28 +76,28 @@ edges-owned t l size = (owned t l size, paired t l size)
 -- ---- a mesh of tubes
 
 -- every mesh of tubes is sound, over the sums of their counts
-pub mesh-sound : (p d o : ℕ) (ns : List ℕ) → 3 ≤ p → Sound o (o + meshVertices p d ns) (meshTriangles p d ns) (mesh p d o ns)
-unfolding mesh meshVertices meshTriangles
+pub mesh-sound : (p d o : ℕ) (ns : List ℕ) → 3 ≤ p → Sound o (o + vertexTotal p d ns) (triangleTotal p d ns) (mesh p d o ns)
+unfolding mesh vertexTotal triangleTotal
 mesh-sound p d o [] sides = empty-sound o
 mesh-sound p d o (n ∷ ns) sides =
     recount (omega arith) refl (glue _ _ _ (omega arith) (omega arith) (tube-sound p d o n sides) (mesh-sound p d (o + vertices p d n) ns sides))
 
 -- three corners are written for each triangle that is counted
-pub mesh-size : (p d o : ℕ) (ns : List ℕ) → length (mesh p d o ns) ≡ 3 * meshTriangles p d ns
-unfolding mesh meshTriangles
+pub mesh-size : (p d o : ℕ) (ns : List ℕ) → length (mesh p d o ns) ≡ 3 * triangleTotal p d ns
+unfolding mesh triangleTotal
 mesh-size p d o [] = refl
 mesh-size p d o (n ∷ ns) = length-append (tube p d o n) _ ∙ omega (arith, tube-size p d o n, mesh-size p d (o + vertices p d n) ns)
 
 -- tubes followed by tubes (02 §12: 'that list followed by the new job's tubes'): the counts add up
 pub mesh-totals : (p d : ℕ) (ms ns : List ℕ)
-    → (meshVertices p d (ms ++ ns) ≡ meshVertices p d ms + meshVertices p d ns) × (meshTriangles p d (ms ++ ns) ≡ meshTriangles p d ms + meshTriangles p d ns)
-unfolding meshVertices meshTriangles
+    → (vertexTotal p d (ms ++ ns) ≡ vertexTotal p d ms + vertexTotal p d ns) × (triangleTotal p d (ms ++ ns) ≡ triangleTotal p d ms + triangleTotal p d ns)
+unfolding vertexTotal triangleTotal
 mesh-totals p d [] ns = (omega arith, omega arith)
 mesh-totals p d (m ∷ ms) ns = let t = mesh-totals p d ms ns in (omega (arith, t .0), omega (arith, t .1))
 
 -- and the second mesh stands after the first, numbered after it
-pub mesh-followed : (p d o : ℕ) (ms ns : List ℕ) → mesh p d o (ms ++ ns) ≡ mesh p d o ms ++ mesh p d (o + meshVertices p d ms) ns
-unfolding mesh meshVertices
+pub mesh-followed : (p d o : ℕ) (ms ns : List ℕ) → mesh p d o (ms ++ ns) ≡ mesh p d o ms ++ mesh p d (o + vertexTotal p d ms) ns
+unfolding mesh vertexTotal
 mesh-followed p d o [] ns = ap (λ (v : ℕ). mesh p d v ns) (omega arith)
 mesh-followed p d o (m ∷ ms) ns =
     let v : ℕ = o + vertices p d m in
@@ -105,26 +105,26 @@ mesh-followed p d o (m ∷ ms) ns =
     ∙ sym (append-assoc (tube p d o m) (mesh p d v ms) _)
 
 -- one tube more: what a loop over the tubes writes
-pub mesh-more : (p d o : ℕ) (ms : List ℕ) (n : ℕ) → mesh p d o (ms ++ n ∷ []) ≡ mesh p d o ms ++ tube p d (o + meshVertices p d ms) n
+pub mesh-more : (p d o : ℕ) (ms : List ℕ) (n : ℕ) → mesh p d o (ms ++ n ∷ []) ≡ mesh p d o ms ++ tube p d (o + vertexTotal p d ms) n
 unfolding mesh
-mesh-more p d o ms n = mesh-followed p d o ms (n ∷ []) ∙ ap (λ (l : List ℕ). mesh p d o ms ++ l) (append-nil (tube p d (o + meshVertices p d ms) n))
+mesh-more p d o ms n = mesh-followed p d o ms (n ∷ []) ∙ ap (λ (l : List ℕ). mesh p d o ms ++ l) (append-nil (tube p d (o + vertexTotal p d ms) n))
 
 -- the part of a mesh that begins at a tube's first triangle is that tube, numbered from its first vertex: both are sums over the tubes before it
 pub mesh-part : (p d o : ℕ) (ms : List ℕ) (n : ℕ) (ns : List ℕ)
-    → take (3 * triangles p d n) (drop (3 * meshTriangles p d ms) (mesh p d o (ms ++ n ∷ ns))) ≡ tube p d (o + meshVertices p d ms) n
+    → take (3 * triangles p d n) (drop (3 * triangleTotal p d ms) (mesh p d o (ms ++ n ∷ ns))) ≡ tube p d (o + vertexTotal p d ms) n
 unfolding mesh
 mesh-part p d o ms n ns =
-    let v : ℕ = o + meshVertices p d ms in
+    let v : ℕ = o + vertexTotal p d ms in
     let rest = mesh p d (v + vertices p d n) ns in
-    ap (λ (l : List ℕ). take (3 * triangles p d n) (drop (3 * meshTriangles p d ms) l)) (mesh-followed p d o ms (n ∷ ns))
+    ap (λ (l : List ℕ). take (3 * triangles p d n) (drop (3 * triangleTotal p d ms) l)) (mesh-followed p d o ms (n ∷ ns))
     ∙ ap (take (3 * triangles p d n)) (drop-at (mesh p d o ms) (tube p d v n ++ rest) _ (mesh-size p d o ms))
     ∙ ap (λ (k : ℕ). take k (tube p d v n ++ rest)) (sym (tube-size p d v n)) ∙ take-append-seam (tube p d v n) rest
 
 -- so each tube of a mesh is sound by itself, over its own vertices
 pub mesh-part-sound : (p d o : ℕ) (ms : List ℕ) (n : ℕ) (ns : List ℕ) → 3 ≤ p
-    → Sound (o + meshVertices p d ms) (o + meshVertices p d ms + vertices p d n) (triangles p d n)
-    (take (3 * triangles p d n) (drop (3 * meshTriangles p d ms) (mesh p d o (ms ++ n ∷ ns))))
-mesh-part-sound p d o ms n ns sides = rw mesh-part (tube-sound p d (o + meshVertices p d ms) n sides)
+    → Sound (o + vertexTotal p d ms) (o + vertexTotal p d ms + vertices p d n) (triangles p d n)
+    (take (3 * triangles p d n) (drop (3 * triangleTotal p d ms) (mesh p d o (ms ++ n ∷ ns))))
+mesh-part-sound p d o ms n ns sides = rw mesh-part (tube-sound p d (o + vertexTotal p d ms) n sides)
 
 -- ---- any mesh (02 §12): parts one after the other, over vertices one after the other
 
@@ -137,13 +137,13 @@ pub renumbered-sound : (o v q t : ℕ) (l : List ℕ) → Sound o v t l → Soun
 renumbered-sound = renumber
 
 -- a mesh that keeps the edge rule keeps it when a mesh of tubes is appended
-pub appended-edges : (p d v t : ℕ) (l ns : List ℕ) → 3 ≤ p → Part 0 v t l → EdgesPaired l → EdgesPaired (l ++ mesh p d v ns)
+pub appended-edges : (p d v t : ℕ) (l ns : List ℕ) → 3 ≤ p → MeshPart 0 v t l → EdgesPaired l → EdgesPaired (l ++ mesh p d v ns)
 appended-edges p d v t l ns sides old rule =
     let s = mesh-sound p d v ns sides in
     glue-paired old (record { size = s .size; within = s .within }) rule (s .paired)
 
 -- and when a part of it is taken out, and what follows is renumbered
-pub removed-edges : (o u v w a b c : ℕ) (kept gone rest : List ℕ) → o ≤ u → u ≤ v → Part o u a kept → Part u v b gone → Part v w c rest
+pub removed-edges : (o u v w a b c : ℕ) (kept gone rest : List ℕ) → o ≤ u → u ≤ v → MeshPart o u a kept → MeshPart u v b gone → MeshPart v w c rest
     → EdgesPaired (kept ++ gone ++ rest) → EdgesPaired (kept ++ renumbered v u rest)
 removed-edges o u v w a b c kept gone rest ou uv k g r rule =
     let outer = unglue (joined k g ou uv) r rule in
@@ -151,7 +151,7 @@ removed-edges o u v w a b c kept gone rest ou uv k g r rule =
     glue-paired k (renumber-part v w u r) (inner .0) (renumber-paired v w u c rest (r .size) (r .within) (outer .1))
 
 -- and so does every other rule, where they all held
-pub removed-sound : (o u v w a b c t : ℕ) (kept gone rest : List ℕ) → o ≤ u → u ≤ v → v ≤ w → Part o u a kept → Part u v b gone → Part v w c rest
+pub removed-sound : (o u v w a b c t : ℕ) (kept gone rest : List ℕ) → o ≤ u → u ≤ v → v ≤ w → MeshPart o u a kept → MeshPart u v b gone → MeshPart v w c rest
     → Sound o w t (kept ++ gone ++ rest) → Sound o (u + (w - v)) (a + c) (kept ++ renumbered v u rest)
 removed-sound o u v w a b c t kept gone rest ou uv vw k g r s =
     let outer = unglue-sound (joined k g ou uv) r (omega arith) vw s in
@@ -164,7 +164,7 @@ mesh-renumbered p d o q ns =
     ap (λ (v : ℕ). renumbered o q (mesh p d v ns)) (sym (add-zero o)) ∙ mesh-moved p d o q 0 ns ∙ ap (λ (v : ℕ). mesh p d v ns) (add-zero q)
 
 -- so a mesh of tubes with one tube taken out is the mesh of the tubes that are left. That tube has the vertices from u up to v
-pub mesh-without : (p d o : ℕ) (ms : List ℕ) (n : ℕ) (ns : List ℕ) (u v : ℕ) → u ≡ o + meshVertices p d ms → v ≡ u + vertices p d n
+pub mesh-without : (p d o : ℕ) (ms : List ℕ) (n : ℕ) (ns : List ℕ) (u v : ℕ) → u ≡ o + vertexTotal p d ms → v ≡ u + vertices p d n
     → (mesh p d o (ms ++ n ∷ ns) ≡ mesh p d o ms ++ tube p d u n ++ mesh p d v ns) × (mesh p d o ms ++ renumbered v u (mesh p d v ns) ≡ mesh p d o (ms ++ ns))
 unfolding mesh
 mesh-without p d o ms n ns u v eu ev = (

@@ -5,7 +5,7 @@ use Prim.Native.Nat.{ℕ, _*_}
 use lib.Dec.{eqb}
 use lib.ListN.{length, take, drop}
 use Rattle.lists.specs.Put.{upto}
-use Rattle.edges.specs.Tube.{rings, vertices, triangles, ring, next, cap, band, stack, tube, meshVertices, meshTriangles}
+use Rattle.edges.specs.Tube.{rings, vertices, triangles, ring, next, cap, band, stack, tube, vertexTotal, triangleTotal}
 
 -- the same numbers in the same order
 unfoldable pub sameWords : List ℕ → List ℕ → Bool
@@ -26,8 +26,8 @@ gives n v t = eqb (vertices 8 8 n) v && eqb (triangles 8 8 n) t && eqb (length (
 
 -- 'helix (2,3), coils (0,1,2), (3,4,5); V 350, T 688': tubes of these numbers of residues give v vertices and t triangles
 unfoldable pub allGive : List ℕ → ℕ → ℕ → Bool
-unfolding meshVertices meshTriangles vertices triangles
-allGive ns v t = eqb (meshVertices 8 8 ns) v && eqb (meshTriangles 8 8 ns) t
+unfolding vertexTotal triangleTotal vertices triangles
+allGive ns v t = eqb (vertexTotal 8 8 ns) v && eqb (triangleTotal 8 8 ns) t
 
 -- 'First triangles at n = 2: (8,1,0), eight in all, then (0,10,9), (0,1,10); end cap starts (73,65,66)': these corners stand from triangle t on
 unfoldable pub trianglesFrom : ℕ → ℕ → List ℕ → Bool

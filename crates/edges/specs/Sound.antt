@@ -41,12 +41,12 @@ abbrev pub CornersIn : ℕ → ℕ → List ℕ → Type 0
 CornersIn o v l = (i : ℕ) → i < length l → (o ≤ getD l i 0) × (getD l i 0 < v)
 
 -- P of the three corners of each triangle
-abbrev pub Each : (ℕ → ℕ → ℕ → Type 0) → List ℕ → Type 0
-Each P l = (t : ℕ) → 3 * t + 2 < length l → P (getD l (3 * t) 0) (getD l (3 * t + 1) 0) (getD l (3 * t + 2) 0)
+abbrev pub EachTriangle : (ℕ → ℕ → ℕ → Type 0) → List ℕ → Type 0
+EachTriangle P l = (t : ℕ) → 3 * t + 2 < length l → P (getD l (3 * t) 0) (getD l (3 * t + 1) 0) (getD l (3 * t + 2) 0)
 
 -- 'corners of a triangle differ'
 abbrev pub CornersDiffer : List ℕ → Type 0
-CornersDiffer l = Each (λ a b c. (a ≢ b) × (b ≢ c) × (c ≢ a)) l
+CornersDiffer l = EachTriangle (λ a b c. (a ≢ b) × (b ≢ c) × (c ≢ a)) l
 
 -- 'every directed edge occurs once with its reverse once'
 abbrev pub EdgesPaired : List ℕ → Type 0
@@ -65,6 +65,6 @@ pub record Sound (o v t : ℕ) (l : List ℕ) : Type 0 where
   pub used : VerticesUsed o v l
 
 -- a part of a mesh, as a tube is one: 'each triangle's corners lie in its own tube' (02 §4). It has t triangles, over the vertices from o up to v
-pub record Part (o v t : ℕ) (l : List ℕ) : Type 0 where
+pub record MeshPart (o v t : ℕ) (l : List ℕ) : Type 0 where
   pub size : length l ≡ 3 * t
   pub within : CornersIn o v l

@@ -81,13 +81,13 @@ tube p d o n = fromTwo n [] (stack p o (d * (n - 1)))
 -- ---- a mesh: tubes one after the other, each by its number of residues
 
 -- V and T, the sums over the tubes
-unfoldable pub meshVertices : ℕ → ℕ → List ℕ → ℕ
-meshVertices p d [] = 0
-meshVertices p d (n ∷ ns) = vertices p d n + meshVertices p d ns
+unfoldable pub vertexTotal : ℕ → ℕ → List ℕ → ℕ
+vertexTotal p d [] = 0
+vertexTotal p d (n ∷ ns) = vertices p d n + vertexTotal p d ns
 
-unfoldable pub meshTriangles : ℕ → ℕ → List ℕ → ℕ
-meshTriangles p d [] = 0
-meshTriangles p d (n ∷ ns) = triangles p d n + meshTriangles p d ns
+unfoldable pub triangleTotal : ℕ → ℕ → List ℕ → ℕ
+triangleTotal p d [] = 0
+triangleTotal p d (n ∷ ns) = triangles p d n + triangleTotal p d ns
 
 -- each tube's vertices are numbered after those of the tubes before it
 unfoldable pub mesh : ℕ → ℕ → ℕ → List ℕ → List ℕ

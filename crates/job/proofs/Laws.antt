@@ -11,7 +11,7 @@ use Rattle.numbers.specs.Bytes.{u8At, u16At, u32At}
 use Rattle.job.specs.declared.Checked.{Checked}
 use Rattle.job.specs.declared.Checked.the-variants.{Fine, Refused}
 use Rattle.protein.specs.declared.Head.{Head}
-use Rattle.protein.specs.Layout.{Whole, headOf, sizeOf}
+use Rattle.protein.specs.Layout.{Whole, headOf, jobSize}
 use borrow.Author.Tests.{eqb-true, ltb-false, not-false}
 use mathlib.Core.List.{List}
 use Rattle.job.specs.Check.{orFirst, sizes, contents, check, andThen, badVisibility, badKind, badAtom, badCoordinate}
@@ -39,7 +39,7 @@ sizes-whole s h e =
     let r3 = rung (not (eqb (u8At s 4) 1)) (BadVersion (u8At s 4)) _ h (r2 .1) in
     let r4 = rung (ltb 255 (u16At s 5)) BadCounts _ h (r3 .1) in
     let r5 = rung (ltb 16384 (u16At s 7)) BadCounts _ h (r4 .1) in
-    let r6 = rung (not (eqb (length s) (sizeOf (headOf s)))) BadSize (Fine (headOf s)) h (r5 .1) in
+    let r6 = rung (not (eqb (length s) (jobSize (headOf s)))) BadSize (Fine (headOf s)) h (r5 .1) in
     let f : Fine (headOf s) ≡ Fine h = r6 .1 in
     let q : h ≡ headOf s = cc in
     record {

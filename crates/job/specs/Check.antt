@@ -7,7 +7,7 @@ use lib.Dec.{ltb, leb, eqb}
 use Rattle.lists.specs.Search.{first}
 use Rattle.numbers.specs.Bytes.{u8At, u16At, u64At}
 use Rattle.job.specs.Coordinate.{within}
-use Rattle.protein.specs.Layout.{lengthField, versionOf, headOf, chainAt, kindAt, roleAt, residueAt, chainOfAt, xAt, yAt, zAt, sizeOf, none}
+use Rattle.protein.specs.Layout.{lengthField, versionOf, headOf, chainAt, kindAt, roleAt, residueAt, chainOfAt, xAt, yAt, zAt, jobSize, none}
 use Rattle.protein.specs.declared.Head.{Head}
 use Rattle.job.specs.declared.Refusal.{Refusal}
 use Rattle.job.specs.declared.Refusal.the-variants.{BadLength, BadVersion, BadCounts, BadSize, BadVisibility, BadKind, BadAtom, BadCoordinate}
@@ -22,7 +22,7 @@ sizes s =
     (cond (not (eqb (versionOf s) 1)) (Refused (BadVersion (versionOf s)))
     (cond (ltb 255 (headOf s .chains)) (Refused BadCounts)
     (cond (ltb 16384 (headOf s .residues)) (Refused BadCounts)
-    (cond (not (eqb (length s) (sizeOf (headOf s)))) (Refused BadSize)
+    (cond (not (eqb (length s) (jobSize (headOf s)))) (Refused BadSize)
     (Fine (headOf s)))))))
 
 -- 5: 'a visibility byte above 1'

@@ -10,7 +10,7 @@ use lib.ListN.{length, drop}
 use borrow.Author.Tests.{le-ltb, eq-eqb, lt-leb}
 use Rattle.numbers.specs.Bytes.{u8At, u16At, u32At, u64At}
 use Rattle.job.specs.Coordinate.{within}
-use Rattle.protein.specs.Layout.{headOf, sizeOf, none}
+use Rattle.protein.specs.Layout.{headOf, jobSize, none}
 use Rattle.job.specs.Check.{sizes, contents, check, andThen, stray, badVisibility, badKind, badAtom, badCoordinate}
 use Rattle.protein.specs.declared.Head.{Head}
 use Rattle.job.specs.declared.Checked.{Checked}
@@ -36,7 +36,7 @@ nth (x ∷ l) (suc k) h =
     record { item = n .item; tail = n .tail; is = n .is }
 
 -- ---- the ladder of checks, for any bytes
-sizes-fine : (s : List ℕ) → 13 ≤ length s → u32At s 0 ≡ length s - 4 → u8At s 4 ≡ 1 → u16At s 5 ≤ 255 → u16At s 7 ≤ 16384 → length s ≡ sizeOf (headOf s)
+sizes-fine : (s : List ℕ) → 13 ≤ length s → u32At s 0 ≡ length s - 4 → u8At s 4 ≡ 1 → u16At s 5 ≤ 255 → u16At s 7 ≤ 16384 → length s ≡ jobSize (headOf s)
     → sizes s ≡ Fine (headOf s)
 unfolding sizes
 sizes-fine s h₁ h₂ h₃ h₄ h₅ h₆ =
@@ -46,7 +46,7 @@ sizes-fine s h₁ h₂ h₃ h₄ h₅ h₆ =
       eq-eqb (u8At s 4) 1 h₃,
       le-ltb 255 (u16At s 5) h₄,
       le-ltb 16384 (u16At s 7) h₅,
-      eq-eqb (length s) (sizeOf (headOf s)) h₆,
+      eq-eqb (length s) (jobSize (headOf s)) h₆,
     )
 
 contents-fine : (s : List ℕ) (h : Head) → ((k : ℕ) → k < h .chains → badVisibility s h k ≡ false) → ((k : ℕ) → k < h .segments → badKind s h k ≡ false)
@@ -105,7 +105,7 @@ module _ (c r : ℕ) (gs : List JobSegment) (ats : List JobAtom) (hc : c ≤ 255
       let h = head-read 1 33 atomBytes wide-atom c r gs ats in
       let f : u32At job 0 ≡ length job - 4 = h .following ∙ mod-eq-of-lt (omega arith) ∙ omega (arith, size) in
       sizes-fine job (omega (arith, size)) f (h .version-is) (subst (λ (x : Head). x .chains ≤ 255) (sym head-is) hc) (subst (λ (x : Head). x .residues ≤ 16384) (sym head-is) hr)
-      (size ∙ ap sizeOf (sym head-is))
+      (size ∙ ap jobSize (sym head-is))
       ∙ ap Fine head-is
 
   visible : (k : ℕ) → k < c → badVisibility job written k ≡ false

@@ -12,10 +12,10 @@ use Rattle.pdb_records.specs.declared.AtomLine.{AtomLine}
 use Rattle.pdb_records.specs.declared.Record.{Record}
 use Rattle.pdb_records.specs.declared.Record.the-variants.{Skipped, Short, BadNumber, AnAtom, ASegment}
 use Rattle.pdb_file.specs.Reading.{records, atomsOf, segments, segmentsIn, segmentsOf, names}
-use Rattle.pdb_file.specs.Faults.{firstAtom, isFound, present, faultOf, faults, firstOf, faultIn, isClean}
+use Rattle.pdb_file.specs.Faults.{firstAtom, isFound, present, faultOf, faults, firstFault, faultIn, isClean}
 use Rattle.pdb_file.specs.declared.Fault.{Fault}
 use Rattle.pdb_file.specs.declared.Fault.the-variants.{Clean, LineShort, LineWrong, NoResidue}
-use Rattle.pdb_survey.specs.Lines.{ownFault, ownFaults, ahead, counted}
+use Rattle.pdb_survey.specs.Lines.{ownFault, ownFaults, ahead, segmentsCounted}
 use Rattle.pdb_survey.proofs.Atoms.{found-member}
 
 -- ---- a residue that is not in an index of all
@@ -33,7 +33,7 @@ clean-is (LineShort n) e = absurd (let z : _≡_ {A = ℕ} 0 1 = cc in omega ari
 clean-is (LineWrong n) e = absurd (let z : _≡_ {A = ℕ} 0 1 = cc in omega arith)
 clean-is (NoResidue n) e = absurd (let z : _≡_ {A = ℕ} 0 1 = cc in omega arith)
 
-first-of : (f g : Fault) → isClean f ≡ false → firstOf f g ≡ f
+first-of : (f g : Fault) → isClean f ≡ false → firstFault f g ≡ f
 first-of Clean g e = absurd (let z : _≡_ {A = ℕ} 0 1 = cc in omega arith)
 first-of (LineShort n) g e = refl
 first-of (LineWrong n) g e = refl
@@ -42,11 +42,11 @@ first-of (NoResidue n) g e = refl
 module _ (ats : List AtomLine) (n : ℕ) (all : Fault) (rs rs′ : List Record) (r : Record) (f : Fault) where
   pub fault-here : all ≡ faults ats n rs → rs ≡ r ∷ rs′ → f ≡ faultOf ats n r → isClean f ≡ false → f ≡ all
   unfolding faults
-  fault-here e z p q = sym (e ∙ ap (faults ats n) z ∙ ap (λ (g : Fault). firstOf g (faults ats (n + 1) rs′)) (sym p) ∙ first-of f (faults ats (n + 1) rs′) q)
+  fault-here e z p q = sym (e ∙ ap (faults ats n) z ∙ ap (λ (g : Fault). firstFault g (faults ats (n + 1) rs′)) (sym p) ∙ first-of f (faults ats (n + 1) rs′) q)
 
   pub fault-on : all ≡ faults ats n rs → rs ≡ r ∷ rs′ → f ≡ faultOf ats n r → isClean f ≡ true → all ≡ faults ats (n + 1) rs′
   unfolding faults
-  fault-on e z p q = e ∙ ap (faults ats n) z ∙ ap (λ (g : Fault). firstOf g (faults ats (n + 1) rs′)) (sym p ∙ clean-is f q)
+  fault-on e z p q = e ∙ ap (faults ats n) z ∙ ap (λ (g : Fault). firstFault g (faults ats (n + 1) rs′)) (sym p ∙ clean-is f q)
 
 -- ---- the walk: where no segment stands ahead of a line that is at fault by itself, that line is the first at fault
 pub none-ahead : (ats : List AtomLine) (n : ℕ) (rs : List Record) → ahead rs ≡ 0 → ownFaults n rs ≡ faults ats n rs
@@ -71,9 +71,9 @@ module _ (ats : List AtomLine) (n : ℕ) (rs rs′ : List Record) (r : Record) (
 
   pub own-on : (own : Fault) → own ≡ ownFaults n rs → own ≡ ownFaults (n + 1) rs′
   unfolding ownFaults
-  own-on own q = q ∙ ap (ownFaults n) e ∙ ap (λ (g : Fault). firstOf g (ownFaults (n + 1) rs′)) (is-own .0)
+  own-on own q = q ∙ ap (ownFaults n) e ∙ ap (λ (g : Fault). firstFault g (ownFaults (n + 1) rs′)) (is-own .0)
 
-  pub ahead-on : (left k : ℕ) → left ≡ ahead rs → k ≡ counted Clean r → (k ≤ left) × (left - k ≡ ahead rs′)
+  pub ahead-on : (left k : ℕ) → left ≡ ahead rs → k ≡ segmentsCounted Clean r → (k ≤ left) × (left - k ≡ ahead rs′)
   unfolding ahead
   ahead-on left k q ek =
       let z : left ≡ length (segmentsIn r) + ahead rs′ = q ∙ ap ahead e ∙ ap (λ (b : Bool). cond b (length (segmentsIn r) + ahead rs′) 0) (is-own .1) in
@@ -105,7 +105,7 @@ clean-own ats n (BadNumber ∷ rs) e = e
 clean-own ats n (AnAtom a ∷ rs) e = clean-own ats (n + 1) rs e
 clean-own ats n (ASegment g ∷ rs) e = clean-own ats (n + 1) rs (passed (present ats g) e)
   where
-    passed : (b : Bool) → isClean (firstOf (cond b Clean (NoResidue n)) (faults ats (n + 1) rs)) ≡ true → isClean (faults ats (n + 1) rs) ≡ true
+    passed : (b : Bool) → isClean (firstFault (cond b Clean (NoResidue n)) (faults ats (n + 1) rs)) ≡ true → isClean (faults ats (n + 1) rs) ≡ true
     passed true q = q
     passed false q = absurd (let z : _≡_ {A = ℕ} 0 1 = cc in omega arith)
 

@@ -12,7 +12,7 @@ use lib.Seq.{drop-cons, drop-drop}
 use borrow.Author.Tests.{eq-eqb, ne-eqb, le-leb, lt-leb, leb-true}
 use Rattle.pdb_fields.specs.declared.Number.{Number}
 use Rattle.pdb_fields.specs.declared.Number.the-variants.{Bad, Good}
-use Rattle.pdb_fields.specs.Numbers.{run, isBlank, isDigit, decimal, lead, blank, signed, endWhole, endThousandths, fraction, whole, thousandths}
+use Rattle.pdb_fields.specs.Numbers.{run, isBlank, isDigit, decimal, lead, blank, signedField, endWhole, endThousandths, fraction, whole, thousandths}
 use Rattle.pdb_fields.specs.Post.{Digits}
 
 at : (l : List ℕ) (k : ℕ) → k < length l → drop k l ≡ getD l k 0 ∷ drop (k + 1) l
@@ -107,7 +107,7 @@ module _ (l : List ℕ) (a m next value : ℕ) (ha : a ≡ 0 + run isBlank (drop
   abbrev d : ℕ
   d = run isDigit (drop (a + m) l)
 
-  pub signed-is : (f : Bool → List ℕ → ℕ → Number) → signed f l ≡ cond (eqb d 0) Bad (f (eqb m 1) (drop (a + m) l) d)
+  pub signed-is : (f : Bool → List ℕ → ℕ → Number) → signedField f l ≡ cond (eqb d 0) Bad (f (eqb m 1) (drop (a + m) l) d)
   signed-is f =
       let e : run isBlank l ≡ a = omega arith in
       ap (λ (n : ℕ). h n (lead 45 (drop n l))) e ∙ ap (h a) (sym hm) ∙ simp drop-drop
@@ -115,10 +115,10 @@ module _ (l : List ℕ) (a m next value : ℕ) (ha : a ≡ 0 + run isBlank (drop
       h : ℕ → ℕ → Number
       h a m = cond (eqb (run isDigit (drop m (drop a l))) 0) Bad (f (eqb m 1) (drop m (drop a l)) (run isDigit (drop m (drop a l))))
 
-  pub no-digit : (f : Bool → List ℕ → ℕ → Number) → next ≡ a + m → Bad ≡ signed f l
+  pub no-digit : (f : Bool → List ℕ → ℕ → Number) → next ≡ a + m → Bad ≡ signedField f l
   no-digit f e = let z : d ≡ 0 = omega (arith, hd .end) in sym (signed-is f ∙ ap (λ (n : ℕ). cond (eqb n 0) Bad (f (eqb m 1) (drop (a + m) l) d)) z)
 
-  some-digit : (f : Bool → List ℕ → ℕ → Number) → (next ≡ a + m → ⊥) → signed f l ≡ f (eqb m 1) (drop (a + m) l) d
+  some-digit : (f : Bool → List ℕ → ℕ → Number) → (next ≡ a + m → ⊥) → signedField f l ≡ f (eqb m 1) (drop (a + m) l) d
   some-digit f e = signed-is f ∙ ap (λ (b : Bool). cond b Bad (f (eqb m 1) (drop (a + m) l) d)) (ne-eqb d 0 (λ z. e (omega (arith, hd .end))))
 
   rest-is : (k : ℕ) → drop (d + k) (drop (a + m) l) ≡ drop (next + k) l

@@ -35,8 +35,8 @@ lead b [] = 0
 lead b (x ∷ l) = cond (eqb x b) 1 0
 
 -- blanks, a minus or none, d digits, and what follows: handed on
-abbrev pub signed : (Bool → List ℕ → ℕ → Number) → List ℕ → Number
-signed f l =
+abbrev pub signedField : (Bool → List ℕ → ℕ → Number) → List ℕ → Number
+signedField f l =
     let s = drop (run isBlank l) l in
     let u = drop (lead 45 s) s in
     cond (eqb (run isDigit u) 0) Bad (f (eqb (lead 45 s) 1) u (run isDigit u))
@@ -56,8 +56,8 @@ endThousandths m u d =
 
 -- 02 §1: 'right: an optional minus and digits between blanks'
 unfoldable pub whole : List ℕ → Number
-whole l = signed endWhole l
+whole l = signedField endWhole l
 
 -- 'coordinates end in a point and three digits', 'coordinates are whole thousandths'
 unfoldable pub thousandths : List ℕ → Number
-thousandths l = signed endThousandths l
+thousandths l = signedField endThousandths l

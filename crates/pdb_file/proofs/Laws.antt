@@ -7,7 +7,7 @@ use lib.Dec.{eqb}
 use lib.ListN.{length, take, drop, drop-of-length-le}
 use Rattle.pdb_lines.specs.Lines.{lines}
 use Rattle.pdb_lines.specs.Post.{Cut}
-use Rattle.pdb_records.specs.Records.{kindOf, ofKind}
+use Rattle.pdb_records.specs.Records.{lineKind, ofKind}
 use Rattle.pdb_records.specs.declared.Kind.{Kind}
 use Rattle.pdb_records.specs.declared.Record.{Record}
 use Rattle.pdb_records.specs.declared.Record.the-variants.{Skipped, Short, BadNumber, AnAtom, ASegment}
@@ -17,7 +17,7 @@ use Rattle.pdb_file.specs.declared.Next.{Next}
 use Rattle.pdb_file.specs.declared.Next.the-variants.{Done, Got}
 use Rattle.pdb_file.specs.declared.Found.{Found}
 use Rattle.pdb_file.specs.declared.Found.the-variants.{Nowhere, Serial}
-use Rattle.pdb_file.specs.Faults.{foundIn, orElse, firstAtom}
+use Rattle.pdb_file.specs.Faults.{foundIn, orFault, firstAtom}
 
 pub rest-over : (s : List ℕ) (at : ℕ) (seen : Bool) → length s ≤ at → rest s at seen ≡ []
 unfolding reading lines
@@ -27,11 +27,11 @@ module _ (s : List ℕ) (at to next : ℕ) (seen : Bool) (h : Cut s at to next) 
   line : List ℕ
   line = take (to - at) (drop at s)
 
-  pub rest-stop : (k : Kind) → k ≡ kindOf (take (to - at) (drop at s)) → stops seen k ≡ true → rest s at seen ≡ []
+  pub rest-stop : (k : Kind) → k ≡ lineKind (take (to - at) (drop at s)) → stops seen k ≡ true → rest s at seen ≡ []
   unfolding reading
   rest-stop k e z = ap (reading seen) (h .cut) ∙ simp (← e, z)
 
-  pub rest-on : (k : Kind) (r : Record) (v : Bool) → k ≡ kindOf (take (to - at) (drop at s)) → stops seen k ≡ false
+  pub rest-on : (k : Kind) (r : Record) (v : Bool) → k ≡ lineKind (take (to - at) (drop at s)) → stops seen k ≡ false
       → r ≡ ofKind k (take (to - at) (drop at s)) → v ≡ saw seen k → Onward s at seen r next v
   unfolding reading
   rest-on k r v e z er ev = record {
@@ -41,7 +41,7 @@ module _ (s : List ℕ) (at to next : ℕ) (seen : Bool) (h : Cut s at to next) 
   }
 
 -- ---- looking a residue up
-first-cons : (n : ℕ) (r : Record) (rs : List Record) → firstAtom n (atoms (r ∷ rs)) ≡ orElse (foundIn n r) (firstAtom n (atoms rs))
+first-cons : (n : ℕ) (r : Record) (rs : List Record) → firstAtom n (atoms (r ∷ rs)) ≡ orFault (foundIn n r) (firstAtom n (atoms rs))
 unfolding firstAtom atoms
 first-cons n Skipped rs = refl
 first-cons n Short rs = refl
@@ -49,7 +49,7 @@ first-cons n BadNumber rs = refl
 first-cons n (ASegment g) rs = refl
 first-cons n (AnAtom a) rs = go (eqb (a .name) n)
   where
-    go : (b : Bool) → cond b (Serial (a .serial)) (firstAtom n (atoms rs)) ≡ orElse (cond b (Serial (a .serial)) Nowhere) (firstAtom n (atoms rs))
+    go : (b : Bool) → cond b (Serial (a .serial)) (firstAtom n (atoms rs)) ≡ orFault (cond b (Serial (a .serial)) Nowhere) (firstAtom n (atoms rs))
     go true = refl
     go false = refl
 
@@ -59,10 +59,10 @@ module _ (n : ℕ) (all rs rs′ : List Record) where
   first-done e z = sym (e ∙ rw z)
 
   pub first-here : (r : Record) (x : ℕ) → firstAtom n (atoms all) ≡ firstAtom n (atoms rs) → rs ≡ r ∷ rs′ → foundIn n r ≡ Serial x → Serial x ≡ firstAtom n (atoms all)
-  first-here r x e z f = sym (e ∙ ap (λ (l : List Record). firstAtom n (atoms l)) z ∙ first-cons n r rs′ ∙ ap (λ (g : Found). orElse g (firstAtom n (atoms rs′))) f)
+  first-here r x e z f = sym (e ∙ ap (λ (l : List Record). firstAtom n (atoms l)) z ∙ first-cons n r rs′ ∙ ap (λ (g : Found). orFault g (firstAtom n (atoms rs′))) f)
 
   pub first-on : (r : Record) → firstAtom n (atoms all) ≡ firstAtom n (atoms rs) → rs ≡ r ∷ rs′ → foundIn n r ≡ Nowhere → firstAtom n (atoms all) ≡ firstAtom n (atoms rs′)
-  first-on r e z f = e ∙ ap (λ (l : List Record). firstAtom n (atoms l)) z ∙ first-cons n r rs′ ∙ ap (λ (g : Found). orElse g (firstAtom n (atoms rs′))) f
+  first-on r e z f = e ∙ ap (λ (l : List Record). firstAtom n (atoms l)) z ∙ first-cons n r rs′ ∙ ap (λ (g : Found). orFault g (firstAtom n (atoms rs′))) f
 
 -- ---- what a step told
 pub stepped-done : (s : List ℕ) (at : ℕ) (seen : Bool) (n : Next) → Stepped s at seen n → n ≡ Done → rest s at seen ≡ []

@@ -19,14 +19,14 @@ firstAtom n [] = Nowhere
 firstAtom n (a ∷ ats) = cond (eqb (a .name) n) (Serial (a .serial)) (firstAtom n ats)
 
 -- the first of two, if it was found
-abbrev pub orElse : Found → Found → Found
-orElse Nowhere f = f
-orElse (Serial s) f = Serial s
+abbrev pub orFault : Found → Found → Found
+orFault Nowhere f = f
+orFault (Serial s) f = Serial s
 
 -- 'that of the ending one's last'
 unfoldable pub lastAtom : ℕ → List AtomLine → Found
 lastAtom n [] = Nowhere
-lastAtom n (a ∷ ats) = orElse (lastAtom n ats) (cond (eqb (a .name) n) (Serial (a .serial)) Nowhere)
+lastAtom n (a ∷ ats) = orFault (lastAtom n ats) (cond (eqb (a .name) n) (Serial (a .serial)) Nowhere)
 
 -- the same of what one line gives
 abbrev pub foundIn : ℕ → Record → Found
@@ -66,16 +66,16 @@ isClean (LineWrong n) = false
 isClean (NoResidue n) = false
 
 -- the first of two faults, if there is one
-abbrev pub firstOf : Fault → Fault → Fault
-firstOf Clean f = f
-firstOf (LineShort n) f = LineShort n
-firstOf (LineWrong n) f = LineWrong n
-firstOf (NoResidue n) f = NoResidue n
+abbrev pub firstFault : Fault → Fault → Fault
+firstFault Clean f = f
+firstFault (LineShort n) f = LineShort n
+firstFault (LineWrong n) f = LineWrong n
+firstFault (NoResidue n) f = NoResidue n
 
 -- the first line at fault among those from line n on
 unfoldable pub faults : List AtomLine → ℕ → List Record → Fault
 faults ats n [] = Clean
-faults ats n (r ∷ rs) = firstOf (faultOf ats n r) (faults ats (n + 1) rs)
+faults ats n (r ∷ rs) = firstFault (faultOf ats n r) (faults ats (n + 1) rs)
 
 -- THE fault of a file, lines counted from 1
 abbrev pub faultIn : List ℕ → Fault

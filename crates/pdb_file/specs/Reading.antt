@@ -4,7 +4,7 @@ use mathlib.Core.List.{List, [], _∷_, _++_, map}
 use mathlib.Core.Bool.{Bool, true, false, cond}
 use lib.ListN.{drop}
 use Rattle.pdb_lines.specs.Lines.{lines}
-use Rattle.pdb_records.specs.Records.{kindOf, ofKind}
+use Rattle.pdb_records.specs.Records.{lineKind, ofKind}
 use Rattle.pdb_records.specs.declared.Kind.{Kind}
 use Rattle.pdb_records.specs.declared.Kind.the-variants.{Atom, Helix, Sheet, Model, Endmdl, Other}
 use Rattle.pdb_records.specs.declared.Record.{Record}
@@ -33,7 +33,7 @@ saw seen Other = seen
 -- the records of some lines
 unfoldable pub reading : Bool → List (List ℕ) → List Record
 reading seen [] = []
-reading seen (l ∷ ls) = cond (stops seen (kindOf l)) [] (ofKind (kindOf l) l ∷ reading (saw seen (kindOf l)) ls)
+reading seen (l ∷ ls) = cond (stops seen (lineKind l)) [] (ofKind (lineKind l) l ∷ reading (saw seen (lineKind l)) ls)
 
 -- those from place at of the file on
 abbrev pub rest : List ℕ → ℕ → Bool → List Record

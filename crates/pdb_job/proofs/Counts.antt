@@ -10,11 +10,11 @@ use Rattle.job_writer.specs.Job.{flat, segmentBytes, atomBytes, headBytes}
 use Rattle.job_writer.proofs.Laws.{job-made}
 use Rattle.pdb_file.specs.Reading.{letters}
 use Rattle.pdb_survey.specs.Tables.{Marks}
-use Rattle.pdb_survey.specs.declared.Counts.{Counts}
-use Rattle.pdb_job.specs.Structure.{Structure, chainsOf, sizeOf, toSegment, toAtom, jobOf}
+use Rattle.pdb_survey.specs.declared.FileCounts.{FileCounts}
+use Rattle.pdb_job.specs.Structure.{Structure, chainsOf, structureSize, toSegment, toAtom, structureJob}
 use Rattle.pdb_job.specs.Counted.{Counted, Limited}
 
-module _ (x : Structure) (c : Counts) (g : ℕ) (C : Counted x c g) where
+module _ (x : Structure) (c : FileCounts) (g : ℕ) (C : Counted x c g) where
   -- a file within the limits has no more residues than the tables
   pub not-more : Limited x → c .more ≡ false
   not-more L = go (c .more) refl
@@ -24,7 +24,7 @@ module _ (x : Structure) (c : Counts) (g : ℕ) (C : Counted x c g) where
       go false q = q
 
   module _ (m : c .more ≡ false) where
-    pub size-is : 13 + c .chains + 9 * g + 33 * c .atoms ≡ sizeOf x
+    pub size-is : 13 + c .chains + 9 * g + 33 * c .atoms ≡ structureSize x
     size-is = rw (C .chains m, C .segments-are, C .atoms m)
 
     pub marks-are : (marks : List ℕ) → Marks marks (c .chains) (letters (x .atoms)) → Marks marks (chainsOf (x .atoms)) (letters (x .atoms))
@@ -36,8 +36,8 @@ module _ (x : Structure) (c : Counts) (g : ℕ) (C : Counted x c g) where
 
     -- ---- the job's four parts
     pub written : (out b₁ b₂ b₄ : List ℕ) → b₁ ≡ put out 0 (headBytes 1 33 (c .chains) (c .residues) g (c .atoms)) → b₂ ≡ put b₁ 13 (replicate (c .chains) 1)
-        → b₄ ≡ put (put b₂ (13 + c .chains) (flat segmentBytes (map (toSegment (x .atoms)) (x .segments)))) (13 + c .chains + 9 * g) (flat atomBytes (map (toAtom (x .atoms)) (x .atoms))) → b₄ ≡ put out 0 (jobOf x)
-    unfolding jobOf
+        → b₄ ≡ put (put b₂ (13 + c .chains) (flat segmentBytes (map (toSegment (x .atoms)) (x .segments)))) (13 + c .chains + 9 * g) (flat atomBytes (map (toAtom (x .atoms)) (x .atoms))) → b₄ ≡ put out 0 (structureJob x)
+    unfolding structureJob
     written out b₁ b₂ b₄ e₁ e₂ e₄ =
         rw (← C .chains m, ← C .residues m)
         (job-made 1 33 atomBytes (c .chains) (c .residues) g (c .atoms) (map (toSegment (x .atoms)) (x .segments)) (map (toAtom (x .atoms)) (x .atoms))

@@ -51,12 +51,12 @@ toSegment ats g = record {
 }
 
 -- 01: 'Whole job: 13 + C + 9S + 33A bytes'
-abbrev pub sizeOf : Structure → ℕ
-sizeOf x = 13 + chainsOf (x .atoms) + 9 * length (x .segments) + 33 * length (x .atoms)
+abbrev pub structureSize : Structure → ℕ
+structureSize x = 13 + chainsOf (x .atoms) + 9 * length (x .segments) + 33 * length (x .atoms)
 
 -- THE job: 'Segments, in file order', and the atoms in file order; 'a version 1 job'
-unfoldable pub jobOf : Structure → List ℕ
-jobOf x =
+unfoldable pub structureJob : Structure → List ℕ
+structureJob x =
     jobBytes 1 33 atomBytes (chainsOf (x .atoms)) (residuesOf (x .atoms)) (map (toSegment (x .atoms)) (x .segments)) (map (toAtom (x .atoms)) (x .atoms))
 
 -- what a PDB file says
@@ -65,4 +65,4 @@ structureOf s = record { atoms = atomsOf s; segments = segmentsOf s }
 
 -- and its job
 abbrev pub pdbJob : List ℕ → List ℕ
-pdbJob s = jobOf (structureOf s)
+pdbJob s = structureJob (structureOf s)

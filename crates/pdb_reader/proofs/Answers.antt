@@ -18,9 +18,9 @@ use Rattle.pdb_file.specs.declared.Fault.{Fault}
 use Rattle.pdb_file.specs.declared.Fault.the-variants.{Clean, LineShort, LineWrong, NoResidue}
 use Rattle.pdb_survey.specs.Tables.{Noted, Surveyed}
 use Rattle.pdb_survey.proofs.Walk.{noted-whole}
-use Rattle.pdb_survey.specs.declared.Counts.{Counts}
+use Rattle.pdb_survey.specs.declared.FileCounts.{FileCounts}
 use Rattle.pdb_survey.specs.declared.Overview.{Overview}
-use Rattle.pdb_job.specs.Structure.{Structure, chainsOf, residuesOf, sizeOf, structureOf}
+use Rattle.pdb_job.specs.Structure.{Structure, chainsOf, residuesOf, structureSize, structureOf}
 use Rattle.pdb_job.specs.Counted.{Counted, Limited}
 use Rattle.pdb_faults.proofs.AtFault.{clean-is, all-ahead}
 use Rattle.pdb_reader.specs.Call.{pastLimits, byFault, readChecks, readAnswer, readBy, bufferAfter}
@@ -48,7 +48,7 @@ pub residues-past : (x : Structure) → 16384 < residuesOf (x .atoms) → pastLi
 unfolding pastLimits
 residues-past x h = rw (lt-ltb 16384 (residuesOf (x .atoms)) h) (or-true (ltb 255 (chainsOf (x .atoms))))
 
-module _ (x : Structure) (c : Counts) (g : ℕ) (C : Counted x c g) where
+module _ (x : Structure) (c : FileCounts) (g : ℕ) (C : Counted x c g) where
   past : (n : ℕ) {a b : ℕ} → a ≡ b → n < a → ltb n b ≡ true
   past n {a} {b} e h = lt-ltb n b (subst (λ (m : ℕ). n < m) e h)
 
@@ -81,14 +81,14 @@ module _ (x : Structure) (out : List ℕ) where
   unfolding readChecks
   refuse-limits r e m = e ∙ simp m
 
-  module _ (few : pastLimits x ≡ false) (size : ℕ) (is : size ≡ sizeOf x) where
+  module _ (few : pastLimits x ≡ false) (size : ℕ) (is : size ≡ structureSize x) where
     pub refuse-room : length out < size → NoJob (NoJobRoom size) ≡ readChecks x (length out)
     unfolding readChecks
-    refuse-room h = simp (few, lt-ltb (length out) (sizeOf x) (subst (λ (n : ℕ). length out < n) is h)) (ap (λ (n : ℕ). NoJob (NoJobRoom n)) is)
+    refuse-room h = simp (few, lt-ltb (length out) (structureSize x) (subst (λ (n : ℕ). length out < n) is h)) (ap (λ (n : ℕ). NoJob (NoJobRoom n)) is)
 
     pub accept : size ≤ length out → Written size ≡ readChecks x (length out)
     unfolding readChecks
-    accept h = simp (few, le-ltb (length out) (sizeOf x) (subst (λ (n : ℕ). n ≤ length out) is h)) (ap Written is)
+    accept h = simp (few, le-ltb (length out) (structureSize x) (subst (λ (n : ℕ). n ≤ length out) is h)) (ap Written is)
 
 -- ---- the survey's tables at the start, and what it told
 pub empty-tables : Noted (replicate 16384 0) (replicate 32768 0) (replicate 32768 0) (replicate 256 0) (record { atoms = 0; residues = 0; chains = 0; more = false }) []
@@ -106,7 +106,7 @@ empty-tables = noted-whole _ _ _ _ _ [] refl (record {
 })
 
 -- tables that did not change
-pub noted-same : (keys keys′ links links′ ends marks : List ℕ) (c : Counts) (l : List AtomLine) → Noted keys links ends marks c l → keys′ ≡ keys → links′ ≡ links
+pub noted-same : (keys keys′ links links′ ends marks : List ℕ) (c : FileCounts) (l : List AtomLine) → Noted keys links ends marks c l → keys′ ≡ keys → links′ ≡ links
     → Noted keys′ links′ ends marks c l
 noted-same keys keys′ links links′ ends marks c l N e f = rw (e, f) N
 

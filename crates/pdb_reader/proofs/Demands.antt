@@ -26,7 +26,7 @@ use Rattle.pdb_file.specs.Reading.{reading, atoms, segments, atomsOf, segmentsO
 use Rattle.pdb_file.specs.Faults.{faultIn}
 use Rattle.pdb_file.specs.declared.Fault.{Fault}
 use Rattle.pdb_file.specs.declared.Fault.the-variants.{Clean, LineShort, LineWrong, NoResidue}
-use Rattle.pdb_job.specs.Structure.{toAtom, toSegment, chainsOf, residuesOf, sizeOf, jobOf, structureOf, pdbJob}
+use Rattle.pdb_job.specs.Structure.{toAtom, toSegment, chainsOf, residuesOf, structureSize, structureJob, structureOf, pdbJob}
 use Rattle.pdb_reader.specs.Call.{pastLimits, byFault, readChecks, readAnswer, readBy, bufferAfter}
 use Rattle.pdb_reader.specs.declared.Read.{Read}
 use Rattle.pdb_reader.specs.declared.Read.the-variants.{Written, NoJob}
@@ -48,8 +48,8 @@ read-determined s out r r₂ out′ out₂ a b = (a .answer ∙ sym (b .answer),
 pub record Accepted (s : List ℕ) (room n : ℕ) : Type 0 where
   pub clean : faultIn s ≡ Clean
   pub limits : pastLimits (structureOf s) ≡ false
-  pub size : n ≡ sizeOf (structureOf s)
-  pub fits : sizeOf (structureOf s) ≤ room
+  pub size : n ≡ structureSize (structureOf s)
+  pub fits : structureSize (structureOf s) ≤ room
 
 no-job : {r : Refusal} {n : ℕ} → NoJob r ≡ Written n → ⊥
 no-job e = let z : _≡_ {A = ℕ} 0 1 = cc in omega arith
@@ -58,17 +58,17 @@ pub accepted : (s : List ℕ) (room n : ℕ) → readAnswer s room ≡ Written n
 unfolding readAnswer readChecks
 accepted s room n e = go (faultIn s) refl e
   where
-    rung : (a b : Bool) → pastLimits (structureOf s) ≡ a → ltb room (sizeOf (structureOf s)) ≡ b
-        → cond a (NoJob PastLimits) (cond b (NoJob (NoJobRoom (sizeOf (structureOf s)))) (Written (sizeOf (structureOf s)))) ≡ Written n → faultIn s ≡ Clean → Accepted s room n
+    rung : (a b : Bool) → pastLimits (structureOf s) ≡ a → ltb room (structureSize (structureOf s)) ≡ b
+        → cond a (NoJob PastLimits) (cond b (NoJob (NoJobRoom (structureSize (structureOf s)))) (Written (structureSize (structureOf s)))) ≡ Written n → faultIn s ≡ Clean → Accepted s room n
     rung true b p q e f = absurd (no-job e)
     rung false true p q e f = absurd (no-job e)
     rung false false p q e f =
-        let z : n ≡ sizeOf (structureOf s) = cc in
-        record { clean = f; limits = p; size = z; fits = ltb-false room (sizeOf (structureOf s)) q }
+        let z : n ≡ structureSize (structureOf s) = cc in
+        record { clean = f; limits = p; size = z; fits = ltb-false room (structureSize (structureOf s)) q }
 
-    go : (f : Fault) → faultIn s ≡ f → byFault f (cond (pastLimits (structureOf s)) (NoJob PastLimits) (cond (ltb room (sizeOf (structureOf s))) (NoJob (NoJobRoom (sizeOf (structureOf s)))) (Written (sizeOf (structureOf s))))) ≡ Written n
+    go : (f : Fault) → faultIn s ≡ f → byFault f (cond (pastLimits (structureOf s)) (NoJob PastLimits) (cond (ltb room (structureSize (structureOf s))) (NoJob (NoJobRoom (structureSize (structureOf s)))) (Written (structureSize (structureOf s))))) ≡ Written n
         → Accepted s room n
-    go Clean f e = rung (pastLimits (structureOf s)) (ltb room (sizeOf (structureOf s))) refl refl e f
+    go Clean f e = rung (pastLimits (structureOf s)) (ltb room (structureSize (structureOf s))) refl refl e f
     go (LineShort i) f e = absurd (no-job e)
     go (LineWrong i) f e = absurd (no-job e)
     go (NoResidue i) f e = absurd (no-job e)
@@ -83,14 +83,14 @@ numbered s room r e = go (faultIn s) e
         let z : x ≡ r = cc in
         subst (λ (y : Refusal). (12 ≤ numberOf y) × (numberOf y ≤ 16)) z h
 
-    rung : (a b : Bool) → cond a (NoJob PastLimits) (cond b (NoJob (NoJobRoom (sizeOf (structureOf s)))) (Written (sizeOf (structureOf s)))) ≡ NoJob r → (12 ≤ numberOf r) × (numberOf r ≤ 16)
+    rung : (a b : Bool) → cond a (NoJob PastLimits) (cond b (NoJob (NoJobRoom (structureSize (structureOf s)))) (Written (structureSize (structureOf s)))) ≡ NoJob r → (12 ≤ numberOf r) × (numberOf r ≤ 16)
     rung true b q = is PastLimits (omega arith, omega arith) q
-    rung false true q = is (NoJobRoom (sizeOf (structureOf s))) (omega arith, omega arith) q
+    rung false true q = is (NoJobRoom (structureSize (structureOf s))) (omega arith, omega arith) q
     rung false false q = absurd (no-job (sym q))
 
-    go : (f : Fault) → byFault f (cond (pastLimits (structureOf s)) (NoJob PastLimits) (cond (ltb room (sizeOf (structureOf s))) (NoJob (NoJobRoom (sizeOf (structureOf s)))) (Written (sizeOf (structureOf s))))) ≡ NoJob r
+    go : (f : Fault) → byFault f (cond (pastLimits (structureOf s)) (NoJob PastLimits) (cond (ltb room (structureSize (structureOf s))) (NoJob (NoJobRoom (structureSize (structureOf s)))) (Written (structureSize (structureOf s))))) ≡ NoJob r
         → (12 ≤ numberOf r) × (numberOf r ≤ 16)
-    go Clean q = rung (pastLimits (structureOf s)) (ltb room (sizeOf (structureOf s))) q
+    go Clean q = rung (pastLimits (structureOf s)) (ltb room (structureSize (structureOf s))) q
     go (LineShort i) q = is (ShortLine i) (omega arith, omega arith) q
     go (LineWrong i) q = is (BadNumber i) (omega arith, omega arith) q
     go (NoResidue i) q = is (AbsentResidue i) (omega arith, omega arith) q
@@ -102,8 +102,8 @@ pub refused-nothing : (s out : List ℕ) (r : Refusal) → readAnswer s (length 
 unfolding bufferAfter
 refused-nothing s out r e = ap (λ (x : Read). readBy x s out) e
 
-job-long : (s : List ℕ) → length (pdbJob s) ≡ sizeOf (structureOf s)
-unfolding jobOf
+job-long : (s : List ℕ) → length (pdbJob s) ≡ structureSize (structureOf s)
+unfolding structureJob
 job-long s =
     job-size 1 33 atomBytes wide-atom (chainsOf (atomsOf s)) (residuesOf (atomsOf s)) (map (toSegment (atomsOf s)) (segmentsOf s)) (map (toAtom (atomsOf s)) (atomsOf s))
     ∙ rw (length-map (segmentsOf s) (toSegment (atomsOf s)), length-map (atomsOf s) (toAtom (atomsOf s)))
@@ -145,5 +145,5 @@ coordinates-placed s k a t e =
 
 -- an empty file gives the 13-byte job
 pub empty-file : pdbJob [] ≡ 0 ∷ 0 ∷ 0 ∷ 9 ∷ 1 ∷ 0 ∷ 0 ∷ 0 ∷ 0 ∷ 0 ∷ 0 ∷ 0 ∷ 0 ∷ []
-unfolding jobOf jobBytes headBytes u32 u16 flat lines reading atoms segments distinct
+unfolding structureJob jobBytes headBytes u32 u16 flat lines reading atoms segments distinct
 empty-file = refl

@@ -19,7 +19,7 @@ use Rattle.pdb_lines.specs.Lines.{lines}
 use Rattle.pdb_lines.specs.Columns.{same, named}
 use Rattle.pdb_lines.proofs.Same.{crlf, hasCr, crlf-lines, final, lines-join, lf-lines}
 use Rattle.pdb_records.specs.Names.{ATOM, CA}
-use Rattle.pdb_records.specs.Records.{kindOf, roleOf, atomOf, ofKind}
+use Rattle.pdb_records.specs.Records.{lineKind, roleOf, atomOf, ofKind}
 use Rattle.pdb_records.specs.declared.Kind.{Kind}
 use Rattle.pdb_records.specs.declared.Kind.the-variants.{Atom, Helix, Sheet, Model, Endmdl, Other}
 use Rattle.pdb_records.specs.declared.Record.{Record}
@@ -27,10 +27,10 @@ use Rattle.pdb_records.specs.declared.Record.the-variants.{Skipped}
 use Rattle.pdb_records.specs.declared.AtomLine.{AtomLine}
 use Rattle.pdb_records.specs.declared.SegmentLine.{SegmentLine}
 use Rattle.pdb_file.specs.Reading.{stops, saw, reading, records, atomsIn, atoms, segmentsIn, segments, atomsOf, segmentsOf}
-use Rattle.pdb_file.specs.Faults.{faultOf, firstOf, faults, faultIn}
+use Rattle.pdb_file.specs.Faults.{faultOf, firstFault, faults, faultIn}
 use Rattle.pdb_file.specs.declared.Fault.{Fault}
 use Rattle.pdb_file.specs.declared.Fault.the-variants.{Clean, LineShort, LineWrong, NoResidue}
-use Rattle.pdb_job.specs.Structure.{Structure, sizeOf, jobOf, structureOf, pdbJob}
+use Rattle.pdb_job.specs.Structure.{Structure, structureSize, structureJob, structureOf, pdbJob}
 use Rattle.pdb_reader.specs.Call.{pastLimits, byFault, readChecks, readAnswer, readBy, bufferAfter}
 use Rattle.pdb_reader.specs.declared.Read.{Read}
 use Rattle.pdb_reader.specs.declared.Read.the-variants.{Written, NoJob}
@@ -47,13 +47,13 @@ pub record Alike (s t : List ℕ) : Type 0 where
 -- the atoms and segments, and the first fault, are all that the reader makes of a file
 pub same-structure : (s t : List ℕ) → structureOf s ≡ structureOf t → faultIn s ≡ faultIn t → Alike s t
 unfolding readAnswer bufferAfter
-same-structure s t e f = record { job = ap jobOf e; answer = answer; buffer = λ out. ap (λ (r : Read). readBy r s out) (answer (length out)) ∙ each out (readAnswer t (length out)) }
+same-structure s t e f = record { job = ap structureJob e; answer = answer; buffer = λ out. ap (λ (r : Read). readBy r s out) (answer (length out)) ∙ each out (readAnswer t (length out)) }
   where
     answer : (room : ℕ) → readAnswer s room ≡ readAnswer t room
     answer room = ap (λ (g : Fault). byFault g (readChecks (structureOf s) room)) f ∙ ap (λ (x : Structure). byFault (faultIn t) (readChecks x room)) e
 
     each : (out : List ℕ) (r : Read) → readBy r s out ≡ readBy r t out
-    each out (Written n) = ap (λ (x : Structure). put out 0 (jobOf x)) e
+    each out (Written n) = ap (λ (x : Structure). put out 0 (structureJob x)) e
     each out (NoJob r) = refl
 
 -- files with the same records are the same to the reader
@@ -69,9 +69,9 @@ line-ends s h = same-records (crlf s) s (ap (reading false) (crlf-lines s h))
 passed-over : {A : Type 0} (f : ℕ → List Record → A) → ((n : ℕ) → f n (Skipped ∷ []) ≡ f n [])
     → ((n : ℕ) (r : Record) (rs rs′ : List Record) → f (n + 1) rs ≡ f (n + 1) rs′ → f n (r ∷ rs) ≡ f n (r ∷ rs′))
     → (n : ℕ) (seen : Bool) (ls : List (List ℕ)) → f n (reading seen (ls ++ ([] ∷ []))) ≡ f n (reading seen ls)
-unfolding reading kindOf ofKind named same
+unfolding reading lineKind ofKind named same
 passed-over f last on n seen [] = last n
-passed-over f last on n seen (l ∷ ls) = go (stops seen (kindOf l)) (on n (ofKind (kindOf l) l) _ _ (passed-over f last on (n + 1) (saw seen (kindOf l)) ls))
+passed-over f last on n seen (l ∷ ls) = go (stops seen (lineKind l)) (on n (ofKind (lineKind l) l) _ _ (passed-over f last on (n + 1) (saw seen (lineKind l)) ls))
   where
     go : {rs rs′ : List Record} (b : Bool) → f n rs ≡ f n rs′ → f n (cond b [] rs) ≡ f n (cond b [] rs′)
     go true e = refl
@@ -83,7 +83,7 @@ unfolding atoms segments faults
 empty-line s t j =
     let a : atomsOf t ≡ atomsOf s = rw j (passed-over (λ (n : ℕ). atoms) (λ n. refl) (λ n r rs rs′ e. ap (λ (l : List AtomLine). atomsIn r ++ l) e) 0 false (lines s)) in
     let g : segmentsOf t ≡ segmentsOf s = rw j (passed-over (λ (n : ℕ). segments) (λ n. refl) (λ n r rs rs′ e. ap (λ (l : List SegmentLine). segmentsIn r ++ l) e) 0 false (lines s)) in
-    let f : faultIn t ≡ faultIn s = rw (a, j) (passed-over (faults (atomsOf s)) (λ n. refl) (λ n r rs rs′ e. ap (firstOf (faultOf (atomsOf s) n r)) e) 1 false (lines s)) in
+    let f : faultIn t ≡ faultIn s = rw (a, j) (passed-over (faults (atomsOf s)) (λ n. refl) (λ n r rs rs′ e. ap (firstFault (faultOf (atomsOf s) n r)) e) 1 false (lines s)) in
     same-structure t s (λ i. record { atoms = a i; segments = g i }) f
 
 -- an LF added at the end of a file whose last byte is no CR
@@ -100,29 +100,29 @@ last-lf s h = go (eqb (final 10 s) 10) refl
 -- whether a MODEL line was read, after these lines
 unfoldable pub sawIn : Bool → List (List ℕ) → Bool
 sawIn seen [] = seen
-sawIn seen (l ∷ ls) = sawIn (saw seen (kindOf l)) ls
+sawIn seen (l ∷ ls) = sawIn (saw seen (lineKind l)) ls
 
-stopped : (seen : Bool) (ls : List (List ℕ)) (e : List ℕ) (ms : List (List ℕ)) → stops (sawIn seen ls) (kindOf e) ≡ true → reading seen (ls ++ (e ∷ ms)) ≡ reading seen ls
+stopped : (seen : Bool) (ls : List (List ℕ)) (e : List ℕ) (ms : List (List ℕ)) → stops (sawIn seen ls) (lineKind e) ≡ true → reading seen (ls ++ (e ∷ ms)) ≡ reading seen ls
 unfolding reading sawIn
 stopped seen [] e ms h = rw h
 stopped seen (l ∷ ls) e ms h =
-    ap (λ (rs : List Record). cond (stops seen (kindOf l)) [] (ofKind (kindOf l) l ∷ rs)) (stopped (saw seen (kindOf l)) ls e ms h)
+    ap (λ (rs : List Record). cond (stops seen (lineKind l)) [] (ofKind (lineKind l) l ∷ rs)) (stopped (saw seen (lineKind l)) ls e ms h)
 
 -- what follows a line that ends the reading does not matter
-pub past-stop : (s t : List ℕ) (ls : List (List ℕ)) (e : List ℕ) (ms ns : List (List ℕ)) → stops (sawIn false ls) (kindOf e) ≡ true
+pub past-stop : (s t : List ℕ) (ls : List (List ℕ)) (e : List ℕ) (ms ns : List (List ℕ)) → stops (sawIn false ls) (lineKind e) ≡ true
     → lines s ≡ ls ++ (e ∷ ms) → lines t ≡ ls ++ (e ∷ ns) → Alike s t
 past-stop s t ls e ms ns h p q =
     same-records s t (ap (reading false) p ∙ stopped false ls e ms h ∙ sym (ap (reading false) q ∙ stopped false ls e ns h))
 
 -- what follows a line ENDMDL does not matter
-pub past-endmdl : (s t : List ℕ) (ls : List (List ℕ)) (e : List ℕ) (ms ns : List (List ℕ)) → kindOf e ≡ Endmdl
+pub past-endmdl : (s t : List ℕ) (ls : List (List ℕ)) (e : List ℕ) (ms ns : List (List ℕ)) → lineKind e ≡ Endmdl
     → lines s ≡ ls ++ (e ∷ ms) → lines t ≡ ls ++ (e ∷ ns) → Alike s t
 past-endmdl s t ls e ms ns k = past-stop s t ls e ms ns (ap (stops (sawIn false ls)) k)
 
 saw-stays : (ls : List (List ℕ)) → sawIn true ls ≡ true
 unfolding sawIn
 saw-stays [] = refl
-saw-stays (l ∷ ls) = rw (once (kindOf l)) (saw-stays ls)
+saw-stays (l ∷ ls) = rw (once (lineKind l)) (saw-stays ls)
   where
     once : (k : Kind) → saw true k ≡ true
     once Atom = refl
@@ -132,43 +132,43 @@ saw-stays (l ∷ ls) = rw (once (kindOf l)) (saw-stays ls)
     once Endmdl = refl
     once Other = refl
 
-saw-model : (seen : Bool) (ls : List (List ℕ)) (m : List ℕ) (ks : List (List ℕ)) → kindOf m ≡ Model → sawIn seen (ls ++ (m ∷ ks)) ≡ true
+saw-model : (seen : Bool) (ls : List (List ℕ)) (m : List ℕ) (ks : List (List ℕ)) → lineKind m ≡ Model → sawIn seen (ls ++ (m ∷ ks)) ≡ true
 unfolding sawIn
 saw-model seen [] m ks k = ap (λ (x : Kind). sawIn (saw seen x) ks) k ∙ saw-stays ks
-saw-model seen (l ∷ ls) m ks k = saw-model (saw seen (kindOf l)) ls m ks k
+saw-model seen (l ∷ ls) m ks k = saw-model (saw seen (lineKind l)) ls m ks k
 
 -- what follows a second line MODEL does not matter
-pub past-model : (s t : List ℕ) (ls : List (List ℕ)) (m : List ℕ) (ks : List (List ℕ)) (e : List ℕ) (ms ns : List (List ℕ)) → kindOf m ≡ Model → kindOf e ≡ Model
+pub past-model : (s t : List ℕ) (ls : List (List ℕ)) (m : List ℕ) (ks : List (List ℕ)) (e : List ℕ) (ms ns : List (List ℕ)) → lineKind m ≡ Model → lineKind e ≡ Model
     → lines s ≡ (ls ++ (m ∷ ks)) ++ (e ∷ ms) → lines t ≡ (ls ++ (m ∷ ks)) ++ (e ∷ ns) → Alike s t
 past-model s t ls m ks e ms ns j k = past-stop s t (ls ++ (m ∷ ks)) e ms ns (ap (stops (sawIn false (ls ++ (m ∷ ks)))) k ∙ saw-model false ls m ks j)
 
 -- ==== room
 
 -- refusal 16 is given only where the room is short, and it carries the size needed
-pub only-for-room : (s : List ℕ) (room n : ℕ) → readAnswer s room ≡ NoJob (NoJobRoom n) → (n ≡ sizeOf (structureOf s)) × (room < n)
+pub only-for-room : (s : List ℕ) (room n : ℕ) → readAnswer s room ≡ NoJob (NoJobRoom n) → (n ≡ structureSize (structureOf s)) × (room < n)
 unfolding readAnswer readChecks
-only-for-room s room n e = go (faultIn s) (pastLimits (structureOf s)) (ltb room (sizeOf (structureOf s))) refl e
+only-for-room s room n e = go (faultIn s) (pastLimits (structureOf s)) (ltb room (structureSize (structureOf s))) refl e
   where
-    go : (f : Fault) (p b : Bool) → ltb room (sizeOf (structureOf s)) ≡ b
-        → byFault f (cond p (NoJob PastLimits) (cond b (NoJob (NoJobRoom (sizeOf (structureOf s)))) (Written (sizeOf (structureOf s))))) ≡ NoJob (NoJobRoom n) → (n ≡ sizeOf (structureOf s)) × (room < n)
-    go Clean false true q e = let z : n ≡ sizeOf (structureOf s) = cc in (z, omega (arith, z, ltb-true room (sizeOf (structureOf s)) q))
+    go : (f : Fault) (p b : Bool) → ltb room (structureSize (structureOf s)) ≡ b
+        → byFault f (cond p (NoJob PastLimits) (cond b (NoJob (NoJobRoom (structureSize (structureOf s)))) (Written (structureSize (structureOf s))))) ≡ NoJob (NoJobRoom n) → (n ≡ structureSize (structureOf s)) × (room < n)
+    go Clean false true q e = let z : n ≡ structureSize (structureOf s) = cc in (z, omega (arith, z, ltb-true room (structureSize (structureOf s)) q))
     go Clean false false q e = absurd (let z : _≡_ {A = ℕ} 0 1 = cc in omega arith)
     go Clean true b q e = absurd (let z : _≡_ {A = ℕ} 0 1 = cc in omega arith)
     go (LineShort i) p b q e = absurd (let z : _≡_ {A = ℕ} 0 1 = cc in omega arith)
     go (LineWrong i) p b q e = absurd (let z : _≡_ {A = ℕ} 0 1 = cc in omega arith)
     go (NoResidue i) p b q e = absurd (let z : _≡_ {A = ℕ} 0 1 = cc in omega arith)
 
-by-room : (s : List ℕ) (room : ℕ) (b : Bool) → faultIn s ≡ Clean → pastLimits (structureOf s) ≡ false → ltb room (sizeOf (structureOf s)) ≡ b
-    → readAnswer s room ≡ cond b (NoJob (NoJobRoom (sizeOf (structureOf s)))) (Written (sizeOf (structureOf s)))
+by-room : (s : List ℕ) (room : ℕ) (b : Bool) → faultIn s ≡ Clean → pastLimits (structureOf s) ≡ false → ltb room (structureSize (structureOf s)) ≡ b
+    → readAnswer s room ≡ cond b (NoJob (NoJobRoom (structureSize (structureOf s)))) (Written (structureSize (structureOf s)))
 unfolding readAnswer readChecks
 by-room s room b f p q = rw (f, p, q)
 
 -- a file with no fault and within the limits is refused exactly where the room is short, with the size needed; else its job is written
 pub room-refused : (s : List ℕ) (room : ℕ) → faultIn s ≡ Clean → pastLimits (structureOf s) ≡ false
-    → (room < sizeOf (structureOf s) → readAnswer s room ≡ NoJob (NoJobRoom (sizeOf (structureOf s)))) × (readAnswer s room ≡ NoJob (NoJobRoom (sizeOf (structureOf s))) → room < sizeOf (structureOf s))
-    × (sizeOf (structureOf s) ≤ room → readAnswer s room ≡ Written (sizeOf (structureOf s)))
+    → (room < structureSize (structureOf s) → readAnswer s room ≡ NoJob (NoJobRoom (structureSize (structureOf s)))) × (readAnswer s room ≡ NoJob (NoJobRoom (structureSize (structureOf s))) → room < structureSize (structureOf s))
+    × (structureSize (structureOf s) ≤ room → readAnswer s room ≡ Written (structureSize (structureOf s)))
 room-refused s room f p =
-    (λ h. by-room s room true f p (lt-ltb room (sizeOf (structureOf s)) h), λ e. only-for-room s room (sizeOf (structureOf s)) e .1, λ h. by-room s room false f p (le-ltb room (sizeOf (structureOf s)) h))
+    (λ h. by-room s room true f p (lt-ltb room (structureSize (structureOf s)) h), λ e. only-for-room s room (structureSize (structureOf s)) e .1, λ h. by-room s room false f p (le-ltb room (structureSize (structureOf s)) h))
 
 -- a job that was written in some room is written in any room that is no less
 pub more-room : (s : List ℕ) (room room′ n : ℕ) → readAnswer s room ≡ Written n → room ≤ room′ → readAnswer s room′ ≡ Written n
@@ -202,5 +202,5 @@ oneJob role =
 -- " CA " gives a C-alpha and "CA  " an atom of role 0, in a job of 47 bytes: 47 places suffice and 46 do not
 pub one-atom : (pdbJob (oneAtom CA) ≡ oneJob 1) × (pdbJob (oneAtom (67 ∷ 65 ∷ 32 ∷ 32 ∷ [])) ≡ oneJob 0)
     × (readAnswer (oneAtom CA) 47 ≡ Written 47) × (readAnswer (oneAtom CA) 46 ≡ NoJob (NoJobRoom 47))
-unfolding readAnswer readChecks pastLimits jobOf jobBytes headBytes atomBytes point u64 u32 u16 flat lines reading kindOf ofKind atomOf roleOf named same whole thousandths run decimal bits coordinate round toBits atoms segments distinct member place faults
+unfolding readAnswer readChecks pastLimits structureJob jobBytes headBytes atomBytes point u64 u32 u16 flat lines reading lineKind ofKind atomOf roleOf named same whole thousandths run decimal bits coordinate round toBits atoms segments distinct member place faults
 one-atom = (refl, refl, refl, refl)

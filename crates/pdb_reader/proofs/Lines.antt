@@ -13,7 +13,7 @@ use Rattle.pdb_fields.specs.Numbers.{whole, thousandths}
 use Rattle.pdb_fields.specs.declared.Number.{Number}
 use Rattle.pdb_fields.specs.declared.Number.the-variants.{Bad, Good}
 use Rattle.pdb_records.specs.Names.{CA, O}
-use Rattle.pdb_records.specs.Records.{roleOf, serialOf, residueAt, bitsOf, with, segmentOf, atomOf, kindOf, ofKind}
+use Rattle.pdb_records.specs.Records.{roleOf, serialOf, residueColumns, bitsOf, with, segmentOf, atomOf, lineKind, ofKind}
 use Rattle.pdb_records.specs.declared.Kind.{Kind}
 use Rattle.pdb_records.specs.declared.Kind.the-variants.{Atom, Helix, Sheet, Model, Endmdl, Other}
 use Rattle.pdb_records.specs.declared.Field.{Field}
@@ -61,7 +61,7 @@ role-low l = go (named CA 13 l) (named O 13 l)
 sound-atom : (l : List ℕ) → Sound (atomOf l)
 unfolding atomOf
 sound-atom l =
-    go (ltb (length l) 54) (serialOf (whole (columns 7 11 l))) (residueAt 22 23 l) (bitsOf (thousandths (columns 31 38 l)))
+    go (ltb (length l) 54) (serialOf (whole (columns 7 11 l))) (residueColumns 22 23 l) (bitsOf (thousandths (columns 31 38 l)))
     (bitsOf (thousandths (columns 39 46 l))) (bitsOf (thousandths (columns 47 54 l))) refl refl refl
   where
     go : (b : Bool) (fs fr fx fy fz : Field) → bitsOf (thousandths (columns 31 38 l)) ≡ fx → bitsOf (thousandths (columns 39 46 l)) ≡ fy → bitsOf (thousandths (columns 47 54 l)) ≡ fz
@@ -81,7 +81,7 @@ sound-atom l =
 
 sound-segment : (k c n c′ n′ : ℕ) (l : List ℕ) → k ≤ 2 → Sound (segmentOf k c n c′ n′ l)
 unfolding segmentOf
-sound-segment k c n c′ n′ l h = go (ltb (length l) 38) (residueAt c n l) (residueAt c′ n′ l)
+sound-segment k c n c′ n′ l h = go (ltb (length l) 38) (residueColumns c n l) (residueColumns c′ n′ l)
   where
     go : (t : Bool) (a b : Field) → Sound (cond t Short (with a (λ s. with b (λ e. ASegment (record { kind = k; start = s; end = e })))))
     go true a b = tt
@@ -101,10 +101,10 @@ sound-line Other l = tt
 sound-reading : (seen : Bool) (ls : List (List ℕ)) → Every Sound (reading seen ls)
 unfolding reading
 sound-reading seen [] = tt
-sound-reading seen (l ∷ ls) = go (stops seen (kindOf l)) (sound-line (kindOf l) l) (sound-reading (saw seen (kindOf l)) ls)
+sound-reading seen (l ∷ ls) = go (stops seen (lineKind l)) (sound-line (lineKind l) l) (sound-reading (saw seen (lineKind l)) ls)
   where
-    go : (b : Bool) → Sound (ofKind (kindOf l) l) → Every Sound (reading (saw seen (kindOf l)) ls)
-        → Every Sound (cond b [] (ofKind (kindOf l) l ∷ reading (saw seen (kindOf l)) ls))
+    go : (b : Bool) → Sound (ofKind (lineKind l) l) → Every Sound (reading (saw seen (lineKind l)) ls)
+        → Every Sound (cond b [] (ofKind (lineKind l) l ∷ reading (saw seen (lineKind l)) ls))
     go true h t = tt
     go false h t = (h, t)
 

@@ -19,7 +19,7 @@ use Rattle.job_writer.proofs.Fine.{Placed, Right, written-fine}
 use Rattle.pdb_records.specs.declared.AtomLine.{AtomLine}
 use Rattle.pdb_records.specs.declared.SegmentLine.{SegmentLine}
 use Rattle.pdb_file.specs.Reading.{names, letters}
-use Rattle.pdb_job.specs.Structure.{Structure, toAtom, toSegment, chainsOf, residuesOf, jobOf}
+use Rattle.pdb_job.specs.Structure.{Structure, toAtom, toSegment, chainsOf, residuesOf, structureJob}
 use Rattle.pdb_reader.specs.Call.{pastLimits}
 use Rattle.pdb_reader.proofs.Answers.{limited}
 
@@ -105,8 +105,8 @@ abbrev pub headOf : Structure → Head
 headOf x = record { chains = chainsOf (x .atoms); residues = residuesOf (x .atoms); segments = length (x .segments); atoms = length (x .atoms) }
 
 -- THE law for a reader: proper atoms and segments, within the limits, make a job that passes checks 1 to 8
-pub structure-passes : (x : Structure) → Every Proper (x .atoms) → Every Kinded (x .segments) → pastLimits x ≡ false → check (jobOf x) ≡ Fine (headOf x)
-unfolding jobOf
+pub structure-passes : (x : Structure) → Every Proper (x .atoms) → Every Kinded (x .segments) → pastLimits x ≡ false → check (structureJob x) ≡ Fine (headOf x)
+unfolding structureJob
 structure-passes x P G e =
     let l = limited x e in
     let g = length-map (x .segments) (toSegment (x .atoms)) in

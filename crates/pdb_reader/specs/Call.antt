@@ -9,7 +9,7 @@ use Rattle.job.specs.declared.Refusal.the-variants.{ShortLine, BadNumber, Absen
 use Rattle.pdb_file.specs.Faults.{faultIn}
 use Rattle.pdb_file.specs.declared.Fault.{Fault}
 use Rattle.pdb_file.specs.declared.Fault.the-variants.{Clean, LineShort, LineWrong, NoResidue}
-use Rattle.pdb_job.specs.Structure.{Structure, chainsOf, residuesOf, sizeOf, structureOf, pdbJob}
+use Rattle.pdb_job.specs.Structure.{Structure, chainsOf, residuesOf, structureSize, structureOf, pdbJob}
 use Rattle.pdb_reader.specs.declared.Read.{Read}
 use Rattle.pdb_reader.specs.declared.Read.the-variants.{Written, NoJob}
 
@@ -28,7 +28,7 @@ byFault (NoResidue n) r = NoJob (AbsentResidue n)
 unfoldable pub readChecks : Structure → ℕ → Read
 readChecks x room =
     cond (pastLimits x) (NoJob PastLimits)
-    (cond (ltb room (sizeOf x)) (NoJob (NoJobRoom (sizeOf x))) (Written (sizeOf x)))
+    (cond (ltb room (structureSize x)) (NoJob (NoJobRoom (structureSize x))) (Written (structureSize x)))
 
 -- THE answer: of the file's bytes and of the lent buffer's length
 unfoldable pub readAnswer : List ℕ → ℕ → Read

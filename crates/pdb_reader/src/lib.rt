@@ -1,7 +1,7 @@
 // The public call `read_pdb`: from the bytes of a PDB file to a version 1 job in a lent buffer, or one refusal.
 use job::Refusal;
 use pdb_file::Fault;
-use pdb_survey::Counts;
+use pdb_survey::FileCounts;
 ghost use mathlib.Core.Path.{_≡_};
 ghost use lib.ListN.{length};
 ghost use Rattle.pdb_file.specs.Reading.{atomsOf};
@@ -16,7 +16,7 @@ pub enum Read {
     NoJob(Refusal),
 }
 
-fn is_past_limits(c: Counts, segments: usize) -> bool
+fn is_past_limits(c: FileCounts, segments: usize) -> bool
     ensures { λ r. ⌜ ((x : Structure) → Counted x c segments → r ≡ pastLimits x) ⌝ }
 {
     if c.more {
@@ -38,7 +38,7 @@ fn read_right(
     links: &[usize; 32768],
     ends: &[u64; 32768],
     marks: &[usize; 256],
-    c: Counts,
+    c: FileCounts,
     segments: usize,
     out: &mut [u8],
 ) -> Read

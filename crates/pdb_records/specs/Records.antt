@@ -18,8 +18,8 @@ use Rattle.pdb_records.specs.declared.Record.{Record}
 use Rattle.pdb_records.specs.declared.Record.the-variants.{Skipped, Short, BadNumber, AnAtom, ASegment}
 
 -- which record a line is, by its first six bytes: 'Read ATOM, HELIX and SHEET .., until the first ENDMDL or a second MODEL'
-unfoldable pub kindOf : List ℕ → Kind
-kindOf l =
+unfoldable pub lineKind : List ℕ → Kind
+lineKind l =
     cond (named ATOM 1 l) Atom
     (cond (named HELIX 1 l) Helix
     (cond (named SHEET 1 l) Sheet
@@ -56,15 +56,15 @@ with Wrong f = BadNumber
 with (Right n) f = f n
 
 -- the residue whose chain letter is in column c, its number in the four columns from n on, its insertion code in the next
-abbrev pub residueAt : ℕ → ℕ → List ℕ → Field
-residueAt c n l = residueOf (column c l) (whole (columns n (n + 3) l)) (column (n + 4) l)
+abbrev pub residueColumns : ℕ → ℕ → List ℕ → Field
+residueColumns c n l = residueOf (column c l) (whole (columns n (n + 3) l)) (column (n + 4) l)
 
 -- ATOM: serial 7-11, name 13-16, chain 22, number 23-26, insertion code 27, x 31-38, y 39-46, z 47-54
 unfoldable pub atomOf : List ℕ → Record
 atomOf l =
     cond (ltb (length l) 54) Short
     (with (serialOf (whole (columns 7 11 l))) (λ s.
-    with (residueAt 22 23 l) (λ r.
+    with (residueColumns 22 23 l) (λ r.
     with (bitsOf (thousandths (columns 31 38 l))) (λ x.
     with (bitsOf (thousandths (columns 39 46 l))) (λ y.
     with (bitsOf (thousandths (columns 47 54 l))) (λ z.
@@ -74,8 +74,8 @@ atomOf l =
 unfoldable pub segmentOf : ℕ → ℕ → ℕ → ℕ → ℕ → List ℕ → Record
 segmentOf kind c n c′ n′ l =
     cond (ltb (length l) 38) Short
-    (with (residueAt c n l) (λ s.
-    with (residueAt c′ n′ l) (λ e.
+    (with (residueColumns c n l) (λ s.
+    with (residueColumns c′ n′ l) (λ e.
     ASegment (record { kind = kind; start = s; end = e }))))
 
 -- HELIX: chain 20, number 22-25, insertion code 26; chain 32, number 34-37, insertion code 38
@@ -97,4 +97,4 @@ ofKind Other l = Skipped
 
 -- what a line says
 abbrev pub recordOf : List ℕ → Record
-recordOf l = ofKind (kindOf l) l
+recordOf l = ofKind (lineKind l) l

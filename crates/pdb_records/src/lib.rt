@@ -4,7 +4,7 @@ ghost use mathlib.Core.Path.{_≡_};
 ghost use Prim.Native.Nat.{_+_, _*_, _-_, _<_, _≤_};
 ghost use lib.ListN.{length};
 ghost use Rattle.pdb_fields.specs.Numbers.{whole, thousandths};
-ghost use Rattle.pdb_records.specs.Records.{kindOf, roleOf, serialOf, residueOf, residueAt, bitsOf, segmentOf, atomOf, ofKind};
+ghost use Rattle.pdb_records.specs.Records.{lineKind, roleOf, serialOf, residueOf, residueColumns, bitsOf, segmentOf, atomOf, ofKind};
 
 pub enum Kind {
     Atom,
@@ -45,7 +45,7 @@ pub enum Record {
 }
 
 pub fn kind_of(l: &[u8]) -> Kind
-    ensures { λ r. ⌜ r ≡ kindOf (now (l .entry)) ⌝ }
+    ensures { λ r. ⌜ r ≡ lineKind (now (l .entry)) ⌝ }
 {
     if pdb_lines::is_at(l, 0, b"ATOM  ") {
         return Kind::Atom;
@@ -125,7 +125,7 @@ fn residue_in(l: &[u8], chain: u8, icode: u8) -> Field
 // The residue whose chain letter is in column `chain`, counted from 1, its number in the four from `number` on, its insertion code in the next.
 fn residue_at(l: &[u8], chain: usize, number: usize) -> Field
     requires { ⌜ (0 < chain) × (chain ≤ length (now l)) × (0 < number) × (number + 4 ≤ length (now l)) ⌝ }
-    ensures { λ r. ⌜ r ≡ residueAt chain number (now (l .entry)) ⌝ }
+    ensures { λ r. ⌜ r ≡ residueColumns chain number (now (l .entry)) ⌝ }
 {
     residue_in(&l[number - 1..number + 3], l[chain - 1], l[number + 3])
 }

@@ -8,7 +8,7 @@ use native.Mathlib.Nat.{zero-add}
 use lib.ListN.{length, take, drop, drop-of-length-le}
 use Rattle.pdb_lines.specs.Lines.{lines}
 use Rattle.pdb_lines.specs.Post.{Cut}
-use Rattle.pdb_records.specs.Records.{kindOf, ofKind}
+use Rattle.pdb_records.specs.Records.{lineKind, ofKind}
 use Rattle.pdb_records.specs.declared.Record.{Record}
 use Rattle.pdb_records.specs.declared.Kind.{Kind}
 use Rattle.pdb_file.specs.Reading.{stops, saw, reading}
@@ -20,15 +20,15 @@ use Rattle.pdb_search.specs.declared.Next.{Next}
 use Rattle.pdb_search.specs.declared.Next.the-variants.{Done, Got}
 
 -- the lines that are searched are those that the reader reads: what they say, line by line, are its records
-pub taken-read : (seen : Bool) (ls : List (List ℕ)) → reading seen ls ≡ map (λ (l : List ℕ). ofKind (kindOf l) l) (taken seen ls)
+pub taken-read : (seen : Bool) (ls : List (List ℕ)) → reading seen ls ≡ map (λ (l : List ℕ). ofKind (lineKind l) l) (taken seen ls)
 unfolding reading taken
 taken-read seen [] = refl
-taken-read seen (l ∷ ls) = go (stops seen (kindOf l)) (taken-read (saw seen (kindOf l)) ls)
+taken-read seen (l ∷ ls) = go (stops seen (lineKind l)) (taken-read (saw seen (lineKind l)) ls)
   where
-    go : (b : Bool) → reading (saw seen (kindOf l)) ls ≡ map (λ (k : List ℕ). ofKind (kindOf k) k) (taken (saw seen (kindOf l)) ls)
-        → cond b [] (ofKind (kindOf l) l ∷ reading (saw seen (kindOf l)) ls) ≡ map (λ (k : List ℕ). ofKind (kindOf k) k) (cond b [] (l ∷ taken (saw seen (kindOf l)) ls))
+    go : (b : Bool) → reading (saw seen (lineKind l)) ls ≡ map (λ (k : List ℕ). ofKind (lineKind k) k) (taken (saw seen (lineKind l)) ls)
+        → cond b [] (ofKind (lineKind l) l ∷ reading (saw seen (lineKind l)) ls) ≡ map (λ (k : List ℕ). ofKind (lineKind k) k) (cond b [] (l ∷ taken (saw seen (lineKind l)) ls))
     go true e = refl
-    go false e = ap (λ (rs : List Record). ofKind (kindOf l) l ∷ rs) e
+    go false e = ap (λ (rs : List Record). ofKind (lineKind l) l ∷ rs) e
 
 -- no line is left, a line ends the search, or the search goes on behind it; b: the whole file is searched
 none-by : (t : List ℕ → Bool) (seen b : Bool) → chosen t (cond b [] (taken seen [])) ≡ []
@@ -36,7 +36,7 @@ unfolding chosen taken
 none-by t seen true = refl
 none-by t seen false = refl
 
-module _ (t : List ℕ → Bool) (l : List ℕ) (ls : List (List ℕ)) (seen : Bool) (k : Kind) (e : k ≡ kindOf l) where
+module _ (t : List ℕ → Bool) (l : List ℕ) (ls : List (List ℕ)) (seen : Bool) (k : Kind) (e : k ≡ lineKind l) where
   stop-by : (b : Bool) → cond b false (stops seen k) ≡ true → chosen t (cond b (l ∷ ls) (taken seen (l ∷ ls))) ≡ []
   unfolding chosen taken
   stop-by true z = absurd (ne-by z)
@@ -55,7 +55,7 @@ pub from-over : (w : What) (s : List ℕ) (at : ℕ) (seen : Bool) → length s 
 unfolding lines
 from-over w s at seen h = rw (drop-of-length-le s h) (none-by (passes w) seen (everywhere w))
 
-module _ (w : What) (s : List ℕ) (at to next : ℕ) (seen : Bool) (h : Cut s at to next) (k : Kind) (e : k ≡ kindOf (take (to - at) (drop at s))) where
+module _ (w : What) (s : List ℕ) (at to next : ℕ) (seen : Bool) (h : Cut s at to next) (k : Kind) (e : k ≡ lineKind (take (to - at) (drop at s))) where
   line : List ℕ
   line = take (to - at) (drop at s)
 
@@ -75,7 +75,7 @@ module _ (w : What) (s : List ℕ) (at₀ : ℕ) (seen₀ : Bool) (at to next : 
   pub search-over : length s ≤ at → linesFrom w s at₀ seen₀ ≡ []
   search-over h = q ∙ from-over w s at seen h
 
-  module _ (h : Cut s at to next) (k : Kind) (e : k ≡ kindOf (take (to - at) (drop at s))) (o : Bool) (eo : o ≡ cond (everywhere w) false (stops seen k)) where
+  module _ (h : Cut s at to next) (k : Kind) (e : k ≡ lineKind (take (to - at) (drop at s))) (o : Bool) (eo : o ≡ cond (everywhere w) false (stops seen k)) where
     pub search-stop : o ≡ true → linesFrom w s at₀ seen₀ ≡ []
     search-stop z = q ∙ from-stop w s at to next seen h k e (sym eo ∙ z)
 

@@ -7,7 +7,7 @@ use lib.ListN.{length, drop}
 use Rattle.pdb_lines.specs.Lines.{lines}
 use Rattle.pdb_lines.specs.Columns.{column, named}
 use Rattle.pdb_records.specs.Names.{ATOM, MODEL}
-use Rattle.pdb_records.specs.Records.{kindOf, atomOf}
+use Rattle.pdb_records.specs.Records.{lineKind, atomOf}
 use Rattle.pdb_records.specs.declared.Kind.{Kind}
 use Rattle.pdb_records.specs.declared.Kind.the-variants.{Atom, Helix, Sheet, Model, Endmdl, Other}
 use Rattle.pdb_records.specs.declared.Record.{Record}
@@ -70,7 +70,7 @@ hasLetters l = named atomLetters 1 l || (named helixLetters 1 l || named sheetLe
 
 -- the same, and is no record, since all six columns of a record's name are compared
 abbrev pub isMisspelt : List ℕ → Bool
-isMisspelt l = hasLetters l && isOther (kindOf l)
+isMisspelt l = hasLetters l && isOther (lineKind l)
 
 -- which lines are meant: MODEL lines, END lines, C-alphas in ATOM lines, C-alphas in HETATM lines, lines that were meant as a record and are none,
 -- items of mmCIF, ATOM lines
@@ -96,7 +96,7 @@ everywhere Atoms = true
 -- the lines that are read: those 'until the first ENDMDL or a second MODEL'; seen: a MODEL line came before. What they say are the reader's records (`taken-read`)
 unfoldable pub taken : Bool → List (List ℕ) → List (List ℕ)
 taken seen [] = []
-taken seen (l ∷ ls) = cond (stops seen (kindOf l)) [] (l ∷ taken (saw seen (kindOf l)) ls)
+taken seen (l ∷ ls) = cond (stops seen (lineKind l)) [] (l ∷ taken (saw seen (lineKind l)) ls)
 
 -- those that pass a test, in their order
 unfoldable pub chosen : (List ℕ → Bool) → List (List ℕ) → List (List ℕ)

@@ -11,7 +11,7 @@ use Rattle.pdb_records.specs.declared.AtomLine.{AtomLine}
 use Rattle.pdb_file.specs.declared.Found.{Found}
 use Rattle.pdb_file.specs.declared.Found.the-variants.{Nowhere, Serial}
 use Rattle.pdb_file.specs.Reading.{names, letters}
-use Rattle.pdb_file.specs.Faults.{firstAtom, lastAtom, orElse, isFound}
+use Rattle.pdb_file.specs.Faults.{firstAtom, lastAtom, orFault, isFound}
 
 pub names-more : (l : List AtomLine) (a : AtomLine) → names (l ++ (a ∷ [])) ≡ names l ++ (a .name ∷ [])
 names-more l a = map-append (λ (a : AtomLine). a .name) l (a ∷ [])
@@ -37,7 +37,7 @@ found-member n (a ∷ l) = go (eqb (a .name) n) (eqb-sym (a .name) n) (found-mem
     go true e f = rw (← e)
     go false e f = rw (← e) f
 
-first-more : (n : ℕ) (l : List AtomLine) (a : AtomLine) → firstAtom n (l ++ (a ∷ [])) ≡ orElse (firstAtom n l) (cond (eqb (a .name) n) (Serial (a .serial)) Nowhere)
+first-more : (n : ℕ) (l : List AtomLine) (a : AtomLine) → firstAtom n (l ++ (a ∷ [])) ≡ orFault (firstAtom n l) (cond (eqb (a .name) n) (Serial (a .serial)) Nowhere)
 unfolding firstAtom
 first-more n [] a = refl
 first-more n (b ∷ l) a = go (eqb (b .name) n) (first-more n l a)
@@ -45,26 +45,26 @@ first-more n (b ∷ l) a = go (eqb (b .name) n) (first-more n l a)
     x : Found
     x = cond (eqb (a .name) n) (Serial (a .serial)) Nowhere
 
-    go : (t : Bool) → firstAtom n (l ++ (a ∷ [])) ≡ orElse (firstAtom n l) (cond (eqb (a .name) n) (Serial (a .serial)) Nowhere)
-        → cond t (Serial (b .serial)) (firstAtom n (l ++ (a ∷ []))) ≡ orElse (cond t (Serial (b .serial)) (firstAtom n l)) (cond (eqb (a .name) n) (Serial (a .serial)) Nowhere)
+    go : (t : Bool) → firstAtom n (l ++ (a ∷ [])) ≡ orFault (firstAtom n l) (cond (eqb (a .name) n) (Serial (a .serial)) Nowhere)
+        → cond t (Serial (b .serial)) (firstAtom n (l ++ (a ∷ []))) ≡ orFault (cond t (Serial (b .serial)) (firstAtom n l)) (cond (eqb (a .name) n) (Serial (a .serial)) Nowhere)
     go true e = refl
     go false e = e
 
 last-more : (n : ℕ) (l : List AtomLine) (a : AtomLine) → lastAtom n (l ++ (a ∷ [])) ≡ cond (eqb (a .name) n) (Serial (a .serial)) (lastAtom n l)
 unfolding lastAtom
 last-more n [] a = refl
-last-more n (b ∷ l) a = ap (λ (f : Found). orElse f (cond (eqb (b .name) n) (Serial (b .serial)) Nowhere)) (last-more n l a) ∙ go (eqb (a .name) n)
+last-more n (b ∷ l) a = ap (λ (f : Found). orFault f (cond (eqb (b .name) n) (Serial (b .serial)) Nowhere)) (last-more n l a) ∙ go (eqb (a .name) n)
   where
-    go : (t : Bool) → orElse (cond t (Serial (a .serial)) (lastAtom n l)) (cond (eqb (b .name) n) (Serial (b .serial)) Nowhere)
-        ≡ cond t (Serial (a .serial)) (orElse (lastAtom n l) (cond (eqb (b .name) n) (Serial (b .serial)) Nowhere))
+    go : (t : Bool) → orFault (cond t (Serial (a .serial)) (lastAtom n l)) (cond (eqb (b .name) n) (Serial (b .serial)) Nowhere)
+        ≡ cond t (Serial (a .serial)) (orFault (lastAtom n l) (cond (eqb (b .name) n) (Serial (b .serial)) Nowhere))
     go true = refl
     go false = refl
 
-or-found : (f g : Found) → isFound f ≡ true → orElse f g ≡ f
+or-found : (f g : Found) → isFound f ≡ true → orFault f g ≡ f
 or-found Nowhere g e = absurd (let z : _≡_ {A = ℕ} 0 1 = cc in omega arith)
 or-found (Serial n) g e = refl
 
-or-not : (f g : Found) → isFound f ≡ false → orElse f g ≡ g
+or-not : (f g : Found) → isFound f ≡ false → orFault f g ≡ g
 or-not Nowhere g e = refl
 or-not (Serial n) g e = absurd (let z : _≡_ {A = ℕ} 0 1 = cc in omega arith)
 

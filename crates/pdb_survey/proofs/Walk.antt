@@ -16,12 +16,12 @@ use Rattle.pdb_records.specs.declared.Record.{Record}
 use Rattle.pdb_records.specs.declared.Record.the-variants.{Skipped, Short, BadNumber, AnAtom, ASegment}
 use Rattle.pdb_file.specs.Reading.{rest, records, atoms, atomsOf, atomsIn, segmentsIn, names, letters}
 use Rattle.pdb_file.specs.Steps.{Onward}
-use Rattle.pdb_file.specs.Faults.{isClean, firstOf}
+use Rattle.pdb_file.specs.Faults.{isClean, firstFault}
 use Rattle.pdb_file.specs.declared.Fault.{Fault}
 use Rattle.pdb_file.specs.declared.Fault.the-variants.{Clean, LineShort, LineWrong, NoResidue}
-use Rattle.pdb_survey.specs.Lines.{ownFault, ownFaults, ahead, counted}
+use Rattle.pdb_survey.specs.Lines.{ownFault, ownFaults, ahead, segmentsCounted}
 use Rattle.pdb_survey.specs.Tables.{Residues, Marks, Whole, Noted, Surveyed}
-use Rattle.pdb_survey.specs.declared.Counts.{Counts}
+use Rattle.pdb_survey.specs.declared.FileCounts.{FileCounts}
 use Rattle.pdb_survey.proofs.Atoms.{letters-more}
 use Rattle.pdb_survey.proofs.Tables.{atom-full}
 
@@ -29,7 +29,7 @@ pub clash : (b : Bool) → b ≡ true → b ≡ false → ⊥
 clash b p q = let w : _≡_ {A = Bool} true false = sym p ∙ q in let z : _≡_ {A = ℕ} 0 1 = cc in omega arith
 
 -- ---- the tables with what one line gives
-pub noted-whole : (keys links ends marks : List ℕ) (c : Counts) (l : List AtomLine) → c .more ≡ false → Whole keys links ends marks c l → Noted keys links ends marks c l
+pub noted-whole : (keys links ends marks : List ℕ) (c : FileCounts) (l : List AtomLine) → c .more ≡ false → Whole keys links ends marks c l → Noted keys links ends marks c l
 noted-whole keys links ends marks c l e W = record {
   known = record {
     index = W .residues .index;
@@ -41,10 +41,10 @@ noted-whole keys links ends marks c l e W = record {
 }
 
 -- what a line gives, known by an equation
-pub noted-as : (keys links ends marks : List ℕ) (c : Counts) (l m g : List AtomLine) → m ≡ g → Noted keys links ends marks c (l ++ g) → Noted keys links ends marks c (l ++ m)
+pub noted-as : (keys links ends marks : List ℕ) (c : FileCounts) (l m g : List AtomLine) → m ≡ g → Noted keys links ends marks c (l ++ g) → Noted keys links ends marks c (l ++ m)
 noted-as keys links ends marks c l m g e N = subst (λ (t : List AtomLine). Noted keys links ends marks c (l ++ t)) (sym e) N
 
-module _ (keys links ends marks : List ℕ) (c : Counts) (l : List AtomLine) (N : Noted keys links ends marks c l) where
+module _ (keys links ends marks : List ℕ) (c : FileCounts) (l : List AtomLine) (N : Noted keys links ends marks c l) where
   among-more : (m : List AtomLine) (i : ℕ) → i < c .residues → member (getD keys i 0) (names (l ++ m)) ≡ true
   among-more m i h = rw (map-append (λ (a : AtomLine). a .name) l m, member-append (getD keys i 0) (names l) (names m), N .known .among i h)
 
@@ -84,7 +84,7 @@ module _ (keys links ends marks : List ℕ) (c : Counts) (l : List AtomLine) (N 
         })
 
 -- ---- the loop: the atoms `done` are in the tables, what is left is to come
-pub record Surveying (s keys links ends marks : List ℕ) (at : ℕ) (seen : Bool) (line : ℕ) (fault : Fault) (n : ℕ) (c : Counts) : Type 0 where
+pub record Surveying (s keys links ends marks : List ℕ) (at : ℕ) (seen : Bool) (line : ℕ) (fault : Fault) (n : ℕ) (c : FileCounts) : Type 0 where
   pub inside : at ≤ length s
   pub done : List AtomLine
   pub split : atomsOf s ≡ done ++ atoms (rest s at seen)
@@ -93,10 +93,10 @@ pub record Surveying (s keys links ends marks : List ℕ) (at : ℕ) (seen : Boo
   pub slow-atoms : c .atoms ≤ at
   pub slow-line : line ≤ at + 1
   pub slow-ahead : n ≤ at
-  pub faults : ownFaults 1 (records s) ≡ firstOf fault (ownFaults line (rest s at seen))
+  pub faults : ownFaults 1 (records s) ≡ firstFault fault (ownFaults line (rest s at seen))
   pub aheads : ahead (records s) ≡ n + cond (isClean fault) (ahead (rest s at seen)) 0
 
-abbrev nothing : Counts
+abbrev nothing : FileCounts
 nothing = record { atoms = 0; residues = 0; chains = 0; more = false }
 
 pub surveying-start : (s keys links ends marks : List ℕ) → Noted keys links ends marks nothing [] → Surveying s keys links ends marks 0 false 1 Clean 0 nothing
@@ -113,13 +113,13 @@ surveying-start s keys links ends marks N = record {
   aheads = omega arith;
 }
 
-or-clean : (f : Fault) → firstOf f Clean ≡ f
+or-clean : (f : Fault) → firstFault f Clean ≡ f
 or-clean Clean = refl
 or-clean (LineShort n) = refl
 or-clean (LineWrong n) = refl
 or-clean (NoResidue n) = refl
 
-first-assoc : (f g h : Fault) → firstOf (firstOf f g) h ≡ firstOf f (firstOf g h)
+first-assoc : (f g h : Fault) → firstFault (firstFault f g) h ≡ firstFault f (firstFault g h)
 first-assoc Clean g h = refl
 first-assoc (LineShort n) g h = refl
 first-assoc (LineWrong n) g h = refl
@@ -132,13 +132,13 @@ own-clean n BadNumber = refl
 own-clean n (AnAtom a) = refl
 own-clean n (ASegment g) = refl
 
-module _ (s keys links ends marks : List ℕ) (at : ℕ) (seen : Bool) (line : ℕ) (fault : Fault) (n : ℕ) (c : Counts)
+module _ (s keys links ends marks : List ℕ) (at : ℕ) (seen : Bool) (line : ℕ) (fault : Fault) (n : ℕ) (c : FileCounts)
     (W : Surveying s keys links ends marks at seen line fault n c) where
   pub surveying-over : rest s at seen ≡ [] → Surveyed s keys links ends marks (record { counts = c; fault = fault; ahead = n })
   unfolding ownFaults ahead atoms
   surveying-over e = record {
     noted = subst (Noted keys links ends marks c) (sym (W .split ∙ ap (λ (t : List Record). W .done ++ atoms t) e ∙ append-nil (W .done))) (W .noted);
-    fault = sym (W .faults ∙ ap (λ (t : List Record). firstOf fault (ownFaults line t)) e ∙ or-clean fault);
+    fault = sym (W .faults ∙ ap (λ (t : List Record). firstFault fault (ownFaults line t)) e ∙ or-clean fault);
     ahead-is = sym (W .aheads ∙ ap (λ (t : List Record). n + cond (isClean fault) (ahead t) 0) e ∙ none (isClean fault));
   }
     where
@@ -146,13 +146,13 @@ module _ (s keys links ends marks : List ℕ) (at : ℕ) (seen : Bool) (line : �
       none true = omega arith
       none false = omega arith
 
-  module _ (r : Record) (p : ℕ) (v : Bool) (o : Onward s at seen r p v) (f : Fault) (k : ℕ) (keys′ links′ ends′ marks′ : List ℕ) (d : Counts)
+  module _ (r : Record) (p : ℕ) (v : Bool) (o : Onward s at seen r p v) (f : Fault) (k : ℕ) (keys′ links′ ends′ marks′ : List ℕ) (d : FileCounts)
       (T : Noted keys′ links′ ends′ marks′ d (W .done ++ atomsIn r)) where
     next : atomsOf s ≡ (W .done ++ atomsIn r) ++ atoms (rest s p v)
     unfolding atoms
     next = W .split ∙ ap (λ (t : List Record). W .done ++ atoms t) (o .is) ∙ sym (append-assoc (W .done) (atomsIn r) (atoms (rest s p v)))
 
-    ahead-on : (b : Bool) (w : Bool) → isClean fault ≡ b → f ≡ firstOf fault (ownFault line r) → isClean (ownFault line r) ≡ w → k ≡ counted f r
+    ahead-on : (b : Bool) (w : Bool) → isClean fault ≡ b → f ≡ firstFault fault (ownFault line r) → isClean (ownFault line r) ≡ w → k ≡ segmentsCounted f r
         → n + cond (isClean fault) (ahead (rest s at seen)) 0 ≡ n + k + cond (isClean f) (ahead (rest s p v)) 0
     unfolding ahead
     ahead-on b w eb ef ew ek = rw (o .is, own-clean⁻ w ew, ek, clean-of fault (ownFault line r) f ef, eb, ew) (go b w)
@@ -160,7 +160,7 @@ module _ (s keys links ends marks : List ℕ) (at : ℕ) (seen : Bool) (line : �
         own-clean⁻ : (w : Bool) → isClean (ownFault line r) ≡ w → isClean (ownFault 1 r) ≡ w
         own-clean⁻ w e = sym (own-clean line r) ∙ e
 
-        clean-of : (x y z : Fault) → z ≡ firstOf x y → isClean z ≡ cond (isClean x) (isClean y) false
+        clean-of : (x y z : Fault) → z ≡ firstFault x y → isClean z ≡ cond (isClean x) (isClean y) false
         clean-of Clean y z e = ap isClean e
         clean-of (LineShort i) y z e = ap isClean e
         clean-of (LineWrong i) y z e = ap isClean e
@@ -172,7 +172,7 @@ module _ (s keys links ends marks : List ℕ) (at : ℕ) (seen : Bool) (line : �
         go true false = omega arith
         go false w = omega arith
 
-    pub surveying-more : f ≡ firstOf fault (ownFault line r) → k ≡ counted f r → k ≤ 1 → d .chains ≤ d .atoms → d .atoms ≤ c .atoms + 1
+    pub surveying-more : f ≡ firstFault fault (ownFault line r) → k ≡ segmentsCounted f r → k ≤ 1 → d .chains ≤ d .atoms → d .atoms ≤ c .atoms + 1
         → Surveying s keys′ links′ ends′ marks′ p v (line + 1) f (n + k) d
     unfolding ownFaults
     surveying-more ef ek lk ch at′ = record {
@@ -185,7 +185,7 @@ module _ (s keys links ends marks : List ℕ) (at : ℕ) (seen : Bool) (line : �
       slow-line = omega (arith, o .more, W .slow-line);
       slow-ahead = omega (arith, o .more, W .slow-ahead);
       faults =
-          W .faults ∙ ap (λ (t : List Record). firstOf fault (ownFaults line t)) (o .is)
-          ∙ sym (ap (λ (g : Fault). firstOf g (ownFaults (line + 1) (rest s p v))) ef ∙ first-assoc fault (ownFault line r) (ownFaults (line + 1) (rest s p v)));
+          W .faults ∙ ap (λ (t : List Record). firstFault fault (ownFaults line t)) (o .is)
+          ∙ sym (ap (λ (g : Fault). firstFault g (ownFaults (line + 1) (rest s p v))) ef ∙ first-assoc fault (ownFault line r) (ownFaults (line + 1) (rest s p v)));
       aheads = W .aheads ∙ ahead-on (isClean fault) (isClean (ownFault line r)) refl ef refl ek;
     }

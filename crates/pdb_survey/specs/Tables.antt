@@ -10,7 +10,7 @@ use Rattle.pdb_records.specs.declared.AtomLine.{AtomLine}
 use Rattle.pdb_file.specs.Reading.{names, letters, records, atomsOf}
 use Rattle.pdb_file.specs.Faults.{firstAtom, lastAtom, serialIn}
 use Rattle.pdb_survey.specs.Lines.{ownFaults, ahead}
-use Rattle.pdb_survey.specs.declared.Counts.{Counts}
+use Rattle.pdb_survey.specs.declared.FileCounts.{FileCounts}
 use Rattle.pdb_survey.specs.declared.Overview.{Overview}
 
 -- the n residues of the atoms l: the first serials stand from place 0 of ends on, the last ones from 16,384 on
@@ -34,13 +34,13 @@ pub record Known (keys links : List ℕ) (n : ℕ) (more : Bool) (l : List ℕ) 
   pub all : more ≡ false → Keyed keys n l
 
 -- the tables hold all residues and chains of the atoms l
-pub record Whole (keys links ends marks : List ℕ) (c : Counts) (l : List AtomLine) : Type 0 where
+pub record Whole (keys links ends marks : List ℕ) (c : FileCounts) (l : List AtomLine) : Type 0 where
   pub atoms : c .atoms ≡ length l
   pub residues : Residues keys links ends (c .residues) l
   pub chains : Marks marks (c .chains) (letters l)
 
 -- the tables after the atoms l: they have room for 16,384 residues, a job's limit, and hold all that the atoms have, or say that there are more
-pub record Noted (keys links ends marks : List ℕ) (c : Counts) (l : List AtomLine) : Type 0 where
+pub record Noted (keys links ends marks : List ℕ) (c : FileCounts) (l : List AtomLine) : Type 0 where
   pub known : Known keys links (c .residues) (c .more) (names l)
   pub past : c .more ≡ true → 16384 < length (order (names l))
   pub whole : c .more ≡ false → Whole keys links ends marks c l

@@ -9,12 +9,12 @@ ghost use Prim.Native.Nat.{ℕ, _+_, _<_, _≤_};
 ghost use mathlib.Core.Bool.{false};
 ghost use Rattle.appearance.specs.Index.{Index};
 ghost use Rattle.pdb_file.specs.Reading.{atomsIn};
-ghost use Rattle.pdb_file.specs.Faults.{firstOf};
-ghost use Rattle.pdb_survey.specs.Lines.{ownFault, counted};
+ghost use Rattle.pdb_file.specs.Faults.{firstFault};
+ghost use Rattle.pdb_survey.specs.Lines.{ownFault, segmentsCounted};
 ghost use Rattle.pdb_survey.specs.Tables.{Marks, Noted, Surveyed};
 
 // How many atoms, residues and chains. `more`: a residue came that the tables have no place for, and nothing is counted from its first atom on.
-pub struct Counts {
+pub struct FileCounts {
     pub atoms: usize,
     pub residues: usize,
     pub chains: usize,
@@ -23,7 +23,7 @@ pub struct Counts {
 
 // The counts, the first line that is at fault by itself, and how many segments stand before it.
 pub struct Overview {
-    pub counts: Counts,
+    pub counts: FileCounts,
     pub fault: Fault,
     pub ahead: usize,
 }
@@ -47,9 +47,9 @@ fn take_in(
     links: &mut [usize; 32768],
     ends: &mut [u64; 32768],
     marks: &mut [usize; 256],
-    c: Counts,
+    c: FileCounts,
     a: AtomLine,
-) -> Counts
+) -> FileCounts
     requires { ⌜ (Index (now keys) (now links) (c .residues)) × (c .chains ≤ c .atoms) × (c .atoms < 18446744073709551615) ⌝ }
     ensures { λ d. ⌜ ((l : List AtomLine) → Noted (now (keys .entry)) (now (links .entry)) (now (ends .entry)) (now (marks .entry)) c l → Noted (now (keys .exit)) (now (links .exit)) (now (ends .exit)) (now (marks .exit)) d (l ++ (a ∷ []))) × (d .chains ≤ d .atoms) × (d .atoms ≤ c .atoms + 1) ⌝ }
 {
@@ -62,7 +62,7 @@ fn take_in(
     let chains = mark(marks, a.chain, c.chains);
     if 0 < p {
         ends[16383 + p] = a.serial;
-        return Counts {
+        return FileCounts {
             atoms,
             residues: n,
             chains,
@@ -70,7 +70,7 @@ fn take_in(
         };
     }
     if n == 16384 {
-        return Counts {
+        return FileCounts {
             atoms: c.atoms,
             residues: n,
             chains: c.chains,
@@ -80,7 +80,7 @@ fn take_in(
     appearance::enter(keys, links, n, a.name);
     ends[n] = a.serial;
     ends[16384 + n] = a.serial;
-    Counts {
+    FileCounts {
         atoms,
         residues: n + 1,
         chains,
@@ -94,9 +94,9 @@ fn note(
     links: &mut [usize; 32768],
     ends: &mut [u64; 32768],
     marks: &mut [usize; 256],
-    c: Counts,
+    c: FileCounts,
     r: Record,
-) -> Counts
+) -> FileCounts
     requires { ⌜ (Index (now keys) (now links) (c .residues)) × (c .chains ≤ c .atoms) × (c .atoms < 18446744073709551615) ⌝ }
     ensures { λ d. ⌜ ((l : List AtomLine) → Noted (now (keys .entry)) (now (links .entry)) (now (ends .entry)) (now (marks .entry)) c l → Noted (now (keys .exit)) (now (links .exit)) (now (ends .exit)) (now (marks .exit)) d (l ++ atomsIn r)) × (d .chains ≤ d .atoms) × (d .atoms ≤ c .atoms + 1) ⌝ }
 {
@@ -122,7 +122,7 @@ fn own_fault(line: usize, r: Record) -> Fault
 }
 
 fn first_of(f: Fault, g: Fault) -> Fault
-    ensures { λ r. ⌜ r ≡ firstOf f g ⌝ }
+    ensures { λ r. ⌜ r ≡ firstFault f g ⌝ }
 {
     match f {
         Fault::Clean => g,
@@ -134,7 +134,7 @@ fn first_of(f: Fault, g: Fault) -> Fault
 
 // 1 for a segment while no line is at fault.
 pub fn count_segment(f: Fault, r: Record) -> usize
-    ensures { λ n. ⌜ (n ≡ counted f r) × (n ≤ 1) ⌝ }
+    ensures { λ n. ⌜ (n ≡ segmentsCounted f r) × (n ≤ 1) ⌝ }
 {
     match f {
         Fault::LineShort(_) => 0,
@@ -166,7 +166,7 @@ pub fn survey(
     let mut line = 1;
     let mut fault = Fault::Clean;
     let mut ahead = 0;
-    let mut counts = Counts {
+    let mut counts = FileCounts {
         atoms: 0,
         residues: 0,
         chains: 0,

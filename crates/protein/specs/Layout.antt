@@ -60,8 +60,8 @@ abbrev pub zAt : Head → ℕ → ℕ
 zAt h a = atomAt h a + 25
 
 -- 'Whole job: 13 + C + 9S + 33A bytes': where an atom after the last would stand
-abbrev pub sizeOf : Head → ℕ
-sizeOf h = atomAt h (h .atoms)
+abbrev pub jobSize : Head → ℕ
+jobSize h = atomAt h (h .atoms)
 
 -- 'For residue or chain, 65535 means none'
 abbrev pub none : ℕ
@@ -70,6 +70,6 @@ none = 65535
 -- a job that passed checks 1 to 4
 pub record Whole (s : List ℕ) (h : Head) : Type 0 where
   pub head : h ≡ headOf s
-  pub size : length s ≡ sizeOf h
+  pub size : length s ≡ jobSize h
   pub fewChains : h .chains ≤ 255
   pub fewResidues : h .residues ≤ 16384

@@ -11,13 +11,13 @@ use Rattle.protein.specs.Layout.{xAt, yAt, zAt}
 use Rattle.protein.specs.declared.Head.{Head}
 
 -- 01, 'Floats': 'f64 to f32 is IEEE 754 nearest-even'
-unfoldable pub coordinate : List ℕ → ℕ → Float
+unfoldable pub coordinateAt : List ℕ → ℕ → Float
 unfolding narrowed
-coordinate s at = narrowed binary32 (ofBits binary64 (u64At s at))
+coordinateAt s at = narrowed binary32 (ofBits binary64 (u64At s at))
 
 -- 01, 'Job bytes': 'x, y, z as f64 bits'
 unfoldable pub placeOf : List ℕ → Head → ℕ → Vec3
-placeOf s h a = vec (coordinate s (xAt h (a - 1))) (coordinate s (yAt h (a - 1))) (coordinate s (zAt h (a - 1)))
+placeOf s h a = vec (coordinateAt s (xAt h (a - 1))) (coordinateAt s (yAt h (a - 1))) (coordinateAt s (zAt h (a - 1)))
 
 -- 01, 'Tubes': 'cut .. where the step is greater than 5.0'
 unfoldable pub far : Vec3 → Vec3 → Bool

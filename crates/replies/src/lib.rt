@@ -14,7 +14,7 @@ ghost use Prim.Native.Nat.{_+_, _*_};
 ghost use lib.ListN.{length};
 ghost use Rattle.replies.specs.Own.{own, Sized};
 ghost use Rattle.stream.specs.Requests.{Within};
-ghost use Rattle.stream.specs.Sinks.{Ready};
+ghost use Rattle.stream.specs.Sinks.{SinkReady};
 
 fn fill_mesh(
     positions: &mut [f32],
@@ -42,8 +42,8 @@ fn send_mesh(
     tubes: &[u32],
     boxes: &[f32],
 ) -> Sink
-    requires { ⌜ Ready s (length (now out)) ⌝ }
-    ensures { λ r. ⌜ Ready r (length (now (out .entry))) ⌝ }
+    requires { ⌜ SinkReady s (length (now out)) ⌝ }
+    ensures { λ r. ⌜ SinkReady r (length (now (out .entry))) ⌝ }
 {
     let a = send_floats(s, out, positions);
     let b = send_floats(a, out, normals);
@@ -54,8 +54,8 @@ fn send_mesh(
 }
 
 fn send_scratch(s: Sink, out: &mut [u8], words: &[u32], floats: &[f32]) -> Sink
-    requires { ⌜ Ready s (length (now out)) ⌝ }
-    ensures { λ r. ⌜ Ready r (length (now (out .entry))) ⌝ }
+    requires { ⌜ SinkReady s (length (now out)) ⌝ }
+    ensures { λ r. ⌜ SinkReady r (length (now (out .entry))) ⌝ }
 {
     let t = send_words(s, out, words);
     send_floats(t, out, floats)
@@ -92,15 +92,15 @@ fn run_build(
 }
 
 fn send_four(s: Sink, out: &mut [u8], answer: &[u32; 4]) -> Sink
-    requires { ⌜ Ready s (length (now out)) ⌝ }
-    ensures { λ r. ⌜ Ready r (length (now (out .entry))) ⌝ }
+    requires { ⌜ SinkReady s (length (now out)) ⌝ }
+    ensures { λ r. ⌜ SinkReady r (length (now (out .entry))) ⌝ }
 {
     send_words(s, out, answer)
 }
 
 fn send_nine(s: Sink, out: &mut [u8], answer: &[u32; 9]) -> Sink
-    requires { ⌜ Ready s (length (now out)) ⌝ }
-    ensures { λ r. ⌜ Ready r (length (now (out .entry))) ⌝ }
+    requires { ⌜ SinkReady s (length (now out)) ⌝ }
+    ensures { λ r. ⌜ SinkReady r (length (now (out .entry))) ⌝ }
 {
     send_words(s, out, answer)
 }
@@ -118,8 +118,8 @@ fn serve_build(
     floats: &mut [f32],
     out: &mut [u8],
 ) -> Sink
-    requires { ⌜ Ready s (length (now out)) ⌝ }
-    ensures { λ r. ⌜ Ready r (length (now (out .entry))) ⌝ }
+    requires { ⌜ SinkReady s (length (now out)) ⌝ }
+    ensures { λ r. ⌜ SinkReady r (length (now (out .entry))) ⌝ }
 {
     let mut answer = [0u32; 4];
     run_build(
@@ -147,8 +147,8 @@ fn serve_plan(
     floats: &mut [f32],
     out: &mut [u8],
 ) -> Sink
-    requires { ⌜ Ready s (length (now out)) ⌝ }
-    ensures { λ r. ⌜ Ready r (length (now (out .entry))) ⌝ }
+    requires { ⌜ SinkReady s (length (now out)) ⌝ }
+    ensures { λ r. ⌜ SinkReady r (length (now (out .entry))) ⌝ }
 {
     let mut answer = [0u32; 9];
     fill_words(words);
@@ -166,8 +166,8 @@ fn serve_tube(
     triangles: &mut [u32],
     out: &mut [u8],
 ) -> Sink
-    requires { ⌜ Ready s (length (now out)) × (length (now b) ≡ 4 * (length (now tubes) + length (now triangles))) ⌝ }
-    ensures { λ r. ⌜ Ready r (length (now (out .entry))) ⌝ }
+    requires { ⌜ SinkReady s (length (now out)) × (length (now b) ≡ 4 * (length (now tubes) + length (now triangles))) ⌝ }
+    ensures { λ r. ⌜ SinkReady r (length (now (out .entry))) ⌝ }
 {
     get_words(b, 0, tubes);
     get_words(b, tubes.len() * 4, triangles);
@@ -194,8 +194,8 @@ fn answer_build(
     floats: &mut [f32],
     out: &mut [u8],
 ) -> Sink
-    requires { ⌜ Ready s (length (now out)) × Within lent (own (length (now positions)) (length (now normals)) (length (now tags)) (length (now triangles)) (length (now tubes)) (length (now boxes)) (length (now words)) (length (now floats))) ⌝ }
-    ensures { λ r. ⌜ Ready r (length (now (out .entry))) ⌝ }
+    requires { ⌜ SinkReady s (length (now out)) × Within lent (own (length (now positions)) (length (now normals)) (length (now tags)) (length (now triangles)) (length (now tubes)) (length (now boxes)) (length (now words)) (length (now floats))) ⌝ }
+    ensures { λ r. ⌜ SinkReady r (length (now (out .entry))) ⌝ }
 {
     let n0 = lent.positions;
     let n1 = lent.normals;
@@ -235,8 +235,8 @@ pub fn answer(
     floats: &mut [f32],
     out: &mut [u8],
 ) -> Sink
-    requires { ⌜ Ready s (length (now out)) × Within (r .lent) (own (length (now positions)) (length (now normals)) (length (now tags)) (length (now triangles)) (length (now tubes)) (length (now boxes)) (length (now words)) (length (now floats))) × Sized r (length (now b)) ⌝ }
-    ensures { λ r. ⌜ Ready r (length (now (out .entry))) ⌝ }
+    requires { ⌜ SinkReady s (length (now out)) × Within (r .lent) (own (length (now positions)) (length (now normals)) (length (now tags)) (length (now triangles)) (length (now tubes)) (length (now boxes)) (length (now words)) (length (now floats))) × Sized r (length (now b)) ⌝ }
+    ensures { λ r. ⌜ SinkReady r (length (now (out .entry))) ⌝ }
 {
     let lent = r.lent;
     if r.call == 1 {
@@ -267,8 +267,8 @@ pub fn answer(
 
 // The lent job bytes as they are before every reading, and the call.
 pub fn answer_read(s: Sink, file: &[u8], lent: &mut [u8], out: &mut [u8]) -> Sink
-    requires { ⌜ Ready s (length (now out)) ⌝ }
-    ensures { λ r. ⌜ Ready r (length (now (out .entry))) ⌝ }
+    requires { ⌜ SinkReady s (length (now out)) ⌝ }
+    ensures { λ r. ⌜ SinkReady r (length (now (out .entry))) ⌝ }
 {
     let mut answer = [0u32; 4];
     fill_bytes(lent);

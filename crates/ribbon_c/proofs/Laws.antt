@@ -10,7 +10,7 @@ use lib.Seq.{length-take-le}
 use borrow.Author.Tests.{ltb-true, leb-true, ne-eqb}
 use Rattle.edges.specs.Tube.{triangleCount}
 use Rattle.tube_call.specs.Part.{tubePart}
-use Rattle.ribbon_c.specs.Parts.{Part}
+use Rattle.ribbon_c.specs.Parts.{PartFor}
 use Rattle.lists.proofs.Bools.{and-left, and-right}
 
 clash : {P : Type 0} → true ≡ false → P
@@ -53,7 +53,7 @@ module _ (tubes triangles : List ℕ) (k : ℕ) where
   unfolding tubePart
   whole e = rw e
 
-  pub part-full : (n : ℕ) → n ≡ length (tubePart tubes triangles k) → (n ≡ 0 → ⊥) → Part tubes triangles k from n
+  pub part-full : (n : ℕ) → n ≡ length (tubePart tubes triangles k) → (n ≡ 0 → ⊥) → PartFor tubes triangles k from n
   part-full n e h =
       let t : test ≡ true = full (λ z. h (e ∙ z)) in
       let i : from + size ≤ length triangles =
@@ -61,5 +61,5 @@ module _ (tubes triangles : List ℕ) (k : ℕ) where
       let m : n ≡ size = e ∙ ap length (whole t) ∙ length-take-le size (drop from triangles) (simp length-drop (omega arith)) in
       record { size = e; begin = rw (ne-eqb n 0 h); within = omega arith; there = rw m (sym (whole t)) }
 
-  pub part-empty : 0 ≡ length (tubePart tubes triangles k) → Part tubes triangles k 0 0
+  pub part-empty : 0 ≡ length (tubePart tubes triangles k) → PartFor tubes triangles k 0 0
   part-empty e = record { size = e; begin = refl; within = omega arith; there = no-elements _ (sym e) }

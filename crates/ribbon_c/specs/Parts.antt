@@ -8,7 +8,7 @@ use lib.ListN.{length, take, drop, getD}
 use Rattle.tube_call.specs.Part.{tubePart}
 
 -- 'from three times the tube's first triangle'; 0 where the part is empty
-pub record Part (tubes triangles : List ℕ) (k start n : ℕ) : Type 0 where
+pub record PartFor (tubes triangles : List ℕ) (k start n : ℕ) : Type 0 where
   pub size : n ≡ length (tubePart tubes triangles k)
   pub begin : start ≡ cond (eqb n 0) 0 (3 * getD tubes (5 * k + 4) 0)
   pub within : start + n ≤ length triangles

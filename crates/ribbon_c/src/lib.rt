@@ -10,7 +10,7 @@ ghost use Rattle.mesh.specs.Outs.{outs};
 ghost use Rattle.ribbon.specs.Calls.{buildAnswer, planAnswer, outsAfter, wordsAfter, floatsAfter};
 ghost use Rattle.room.specs.Room.{lent};
 ghost use Rattle.pdb_reader.specs.Call.{readAnswer, bufferAfter};
-ghost use Rattle.ribbon_c.specs.Parts.{Part};
+ghost use Rattle.ribbon_c.specs.Parts.{PartFor};
 ghost use Rattle.ribbon_c.specs.Words.{wordOf, wordsOf, builtNumbers, plannedNumbers, readNumbers};
 
 fn word(n: usize) -> u32
@@ -124,7 +124,7 @@ pub extern "C" fn ribbon_tube(
     k: usize,
     start: &mut usize,
 ) -> usize
-    ensures { λ n. ⌜ Part (now (tubes .entry)) (now (triangles .entry)) k (now (start .exit)) n ⌝ }
+    ensures { λ n. ⌜ PartFor (now (tubes .entry)) (now (triangles .entry)) k (now (start .exit)) n ⌝ }
 {
     let n = tube_call::tube(tubes, triangles, k).len();
     if n == 0 {

@@ -13,7 +13,7 @@ ghost use lib.ListN.{length};
 ghost use Rattle.replies.specs.Own.{own};
 ghost use Rattle.serve.specs.Heads.{Bounded};
 ghost use Rattle.stream.specs.Requests.{Serves};
-ghost use Rattle.stream.specs.Sinks.{Ready};
+ghost use Rattle.stream.specs.Sinks.{SinkReady};
 
 // Why no more requests are answered: the input ended behind a request; it ended within one; a read failed; or an answer did not go out whole or is not as recorded.
 pub enum End {
@@ -78,7 +78,7 @@ fn pass_over(from: i32, n: usize, bytes: &mut [u8]) -> Filled
 
 // The answer to a request that the program does not serve is the one word FFFFFFFF.
 fn refuse(from: i32, s: Sink, n: usize, bytes: &mut [u8], out: &mut [u8]) -> Served
-    requires { ⌜ Ready s (length (now out)) × (0 < length (now bytes)) ⌝ }
+    requires { ⌜ SinkReady s (length (now out)) × (0 < length (now bytes)) ⌝ }
 {
     let got = pass_over(from, n, bytes);
     if !is_whole(got) {
@@ -99,7 +99,7 @@ fn serve_read(
     bytes: &mut [u8],
     out: &mut [u8],
 ) -> Served
-    requires { ⌜ Ready s (length (now out)) × (0 < length (now bytes)) ⌝ }
+    requires { ⌜ SinkReady s (length (now out)) × (0 < length (now bytes)) ⌝ }
 {
     if bytes.len() < n {
         return refuse(from, s, n, bytes, out);
@@ -145,7 +145,7 @@ fn answer_next(
     bytes: &mut [u8],
     out: &mut [u8],
 ) -> Served
-    requires { ⌜ Ready s (length (now out)) × Serves r (own (length (now positions)) (length (now normals)) (length (now tags)) (length (now triangles)) (length (now tubes)) (length (now boxes)) (length (now words)) (length (now floats))) (length (now bytes)) ⌝ }
+    requires { ⌜ SinkReady s (length (now out)) × Serves r (own (length (now positions)) (length (now normals)) (length (now tags)) (length (now triangles)) (length (now tubes)) (length (now boxes)) (length (now words)) (length (now floats))) (length (now bytes)) ⌝ }
 {
     let n = r.bytes;
     let got = files::fill(from, &mut bytes[..n]);
@@ -187,7 +187,7 @@ fn serve(
     bytes: &mut [u8],
     out: &mut [u8],
 ) -> Served
-    requires { ⌜ Ready s (length (now out)) × (0 < length (now bytes)) ⌝ }
+    requires { ⌜ SinkReady s (length (now out)) × (0 < length (now bytes)) ⌝ }
 {
     let h = read_head(from);
     let Head::Asks(r) = h else {

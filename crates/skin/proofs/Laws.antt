@@ -23,7 +23,7 @@ use Rattle.curve.specs.Residues.{oxygenAt, guidesOf, pointsOf}
 use Rattle.curve.proofs.Laws.{rest, length-guides-of, length-points-of}
 use Rattle.edges.specs.Tube.{vertexCount}
 use Rattle.edges.proofs.Theorems.{vertex-count}
-use Rattle.skin.specs.Post.{Room, Wrote, Course, Residues}
+use Rattle.skin.specs.Post.{VertexRoom, Wrote, Course, Residues}
 use Rattle.skin.specs.Tube.{ordered, eight, ringPositions, ringNormals, ringTags, skinPositions, skinNormals, positionsOf, normalsOf, tagsOf}
 
 -- the three buffers at once: one write after another
@@ -96,7 +96,7 @@ on-span p g n from j l h eq ea eb et em ef = ef ∙ rw (em, eq, ea, eb, et, span
 
 -- the three keep their lengths
 pub room : {p₀ n₀ : List Float} {t₀ : List ℕ} {p n : List Float} {t : List ℕ} (v : ℕ) (x y : List Float) (z : List ℕ) (m : ℕ)
-    → Wrote p₀ n₀ t₀ v x y z p n t → Room p₀ n₀ t₀ m → (k : ℕ) → k ≤ m → Room p n t k
+    → Wrote p₀ n₀ t₀ v x y z p n t → VertexRoom p₀ n₀ t₀ m → (k : ℕ) → k ≤ m → VertexRoom p n t k
 room v x y z m w r k h = record {
   pos = omega (arith, kept _ _ _ (w .pos), r .pos);
   norm = omega (arith, kept _ _ _ (w .norm), r .norm);
@@ -104,10 +104,10 @@ room v x y z m w r k h = record {
 }
 
 pub same-room : {p₀ n₀ : List Float} {t₀ : List ℕ} {p n : List Float} {t : List ℕ} (v : ℕ) (x y : List Float) (z : List ℕ) {m : ℕ}
-    → Wrote p₀ n₀ t₀ v x y z p n t → Room p₀ n₀ t₀ m → Room p n t m
+    → Wrote p₀ n₀ t₀ v x y z p n t → VertexRoom p₀ n₀ t₀ m → VertexRoom p n t m
 same-room v x y z {m} w r = room v x y z m w r m (omega arith)
 
-pub less : {p n : List Float} {t : List ℕ} (m k : ℕ) → Room p n t m → k ≤ m → Room p n t k
+pub less : {p n : List Float} {t : List ℕ} (m k : ℕ) → VertexRoom p n t m → k ≤ m → VertexRoom p n t k
 less m k r h = record { pos = omega (arith, r .pos); norm = omega (arith, r .norm); tag = omega (arith, r .tag) }
 
 pub length-eight : (ps : List Vec3) → length (eight ps) ≡ 24

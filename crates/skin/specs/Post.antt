@@ -10,7 +10,7 @@ use Rattle.shape.specs.declared.Spoke.{Spoke}
 use Rattle.shape.specs.Ring.{halfSizes, spokesOf}
 
 -- there is room for v vertices
-pub record Room (p n : List Float) (t : List ℕ) (v : ℕ) : Type 0 where
+pub record VertexRoom (p n : List Float) (t : List ℕ) (v : ℕ) : Type 0 where
   pub pos : 3 * v ≤ length p
   pub norm : 3 * v ≤ length n
   pub tag : v ≤ length t

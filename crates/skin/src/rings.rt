@@ -9,7 +9,7 @@ ghost use lib.ListN.{length, replicate};
 ghost use Rattle.vectors.specs.Vec.{floats};
 ghost use Rattle.lists.specs.Put.{put};
 ghost use Rattle.skin.specs.Tube.{eight};
-ghost use Rattle.skin.specs.Post.{Room, Wrote};
+ghost use Rattle.skin.specs.Post.{VertexRoom, Wrote};
 
 fn put_eight(out: &mut [f32], at: usize, ps: [Vec3; 8])
     requires { ⌜ at + 24 ≤ length (now out) ⌝ }
@@ -42,7 +42,7 @@ pub fn put_ring(
     r: Ring,
     tag: u32,
 )
-    requires { ⌜ Room (now positions) (now normals) (now tags) (v + 8) ⌝ }
+    requires { ⌜ VertexRoom (now positions) (now normals) (now tags) (v + 8) ⌝ }
     ensures { λ _. ⌜ Wrote (now (positions .entry)) (now (normals .entry)) (now (tags .entry)) v
         (eight (r .positions)) (eight (r .normals)) (replicate 8 tag)
         (now (positions .exit)) (now (normals .exit)) (now (tags .exit)) ⌝ }
@@ -63,7 +63,7 @@ fn put_vertex(
     q: Vec3,
     tag: u32,
 )
-    requires { ⌜ Room (now positions) (now normals) (now tags) (v + 1) ⌝ }
+    requires { ⌜ VertexRoom (now positions) (now normals) (now tags) (v + 1) ⌝ }
     ensures { λ _. ⌜ Wrote (now (positions .entry)) (now (normals .entry)) (now (tags .entry)) v (floats p) (floats q) (tag ∷ []) (now (positions .exit)) (now (normals .exit)) (now (tags .exit)) ⌝ }
 {
     put_vec(positions, 3 * v, p);
@@ -83,7 +83,7 @@ pub fn put_capped(
     q: Vec3,
     last: u32,
 )
-    requires { ⌜ Room (now positions) (now normals) (now tags) (v + 9) ⌝ }
+    requires { ⌜ VertexRoom (now positions) (now normals) (now tags) (v + 9) ⌝ }
     ensures { λ _. ⌜ Wrote (now (positions .entry)) (now (normals .entry)) (now (tags .entry)) v
         (eight (r .positions) ++ floats p) (eight (r .normals) ++ floats q) (replicate 8 tag ++ (last ∷ []))
         (now (positions .exit)) (now (normals .exit)) (now (tags .exit)) ⌝ }

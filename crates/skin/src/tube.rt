@@ -25,7 +25,7 @@ ghost use Rattle.curve.specs.Residues.{oxygenAt, guidesOf, pointsOf};
 ghost use Rattle.curve.specs.Samples.{frameAt, tagAt};
 ghost use Rattle.edges.specs.Tube.{vertexCount};
 ghost use Rattle.skin.specs.Tube.{ringPositions, ringNormals, ringTags, startNormal, endNormal, skinPositions, skinNormals, positionsOf, normalsOf, tagsOf};
-ghost use Rattle.skin.specs.Post.{Room, Wrote, Course, Residues};
+ghost use Rattle.skin.specs.Post.{VertexRoom, Wrote, Course, Residues};
 
 // The first ring and the start's centre.
 fn start_cap(
@@ -40,7 +40,7 @@ fn start_cap(
     first: u32,
     spokes: [Spoke; 8],
 )
-    requires { ⌜ Course (now points) (now guides) n first kind spokes × Room (now positions) (now normals) (now tags) (v + 9) ⌝ }
+    requires { ⌜ Course (now points) (now guides) n first kind spokes × VertexRoom (now positions) (now normals) (now tags) (v + 9) ⌝ }
     ensures { λ _. ⌜ Wrote (now (positions .entry)) (now (normals .entry)) (now (tags .entry)) v
         (ringPositions kind (now (points .entry)) (now (guides .entry)) n 0 ++ floats (frameAt (now (points .entry)) (now (guides .entry)) n 0 .position))
         (ringNormals kind (now (points .entry)) (now (guides .entry)) n 0 ++ floats (startNormal (now (points .entry)) (now (guides .entry)) n))
@@ -71,7 +71,7 @@ fn span_rings(
     from: usize,
     count: usize,
 )
-    requires { ⌜ Course (now points) (now guides) n first kind spokes × Room (now positions) (now normals) (now tags) (v + 8 * count) ⌝ }
+    requires { ⌜ Course (now points) (now guides) n first kind spokes × VertexRoom (now positions) (now normals) (now tags) (v + 8 * count) ⌝ }
     requires { ⌜ (from % 8 + count ≤ 8) × (from / 8 + 1 < n) ⌝ }
     ensures { λ _. ⌜ Wrote (now (positions .entry)) (now (normals .entry)) (now (tags .entry)) v
         (upto (λ (j : ℕ). ringPositions kind (now (points .entry)) (now (guides .entry)) n (from + j)) count)
@@ -109,7 +109,7 @@ fn later_rings(
     first: u32,
     spokes: [Spoke; 8],
 )
-    requires { ⌜ Course (now points) (now guides) n first kind spokes × Room (now positions) (now normals) (now tags) (v + 8 * (8 * (n - 1) - 1)) ⌝ }
+    requires { ⌜ Course (now points) (now guides) n first kind spokes × VertexRoom (now positions) (now normals) (now tags) (v + 8 * (8 * (n - 1) - 1)) ⌝ }
     ensures { λ _. ⌜ Wrote (now (positions .entry)) (now (normals .entry)) (now (tags .entry)) v
         (upto (λ (s : ℕ). ringPositions kind (now (points .entry)) (now (guides .entry)) n (s + 1)) (8 * (n - 1) - 1))
         (upto (λ (s : ℕ). ringNormals kind (now (points .entry)) (now (guides .entry)) n (s + 1)) (8 * (n - 1) - 1))
@@ -163,7 +163,7 @@ fn end_cap(
     first: u32,
     spokes: [Spoke; 8],
 )
-    requires { ⌜ Course (now points) (now guides) n first kind spokes × Room (now positions) (now normals) (now tags) (v + 9) ⌝ }
+    requires { ⌜ Course (now points) (now guides) n first kind spokes × VertexRoom (now positions) (now normals) (now tags) (v + 9) ⌝ }
     ensures { λ _. ⌜ Wrote (now (positions .entry)) (now (normals .entry)) (now (tags .entry)) v
         (ringPositions kind (now (points .entry)) (now (guides .entry)) n (8 * (n - 1)) ++ floats (frameAt (now (points .entry)) (now (guides .entry)) n (8 * (n - 1)) .position))
         (ringNormals kind (now (points .entry)) (now (guides .entry)) n (8 * (n - 1)) ++ floats (endNormal (now (points .entry)) n))
@@ -193,7 +193,7 @@ fn skin(
     first: u32,
     spokes: [Spoke; 8],
 )
-    requires { ⌜ Course (now points) (now guides) n first kind spokes × Room (now positions) (now normals) (now tags) (v + vertexCount n) ⌝ }
+    requires { ⌜ Course (now points) (now guides) n first kind spokes × VertexRoom (now positions) (now normals) (now tags) (v + vertexCount n) ⌝ }
     ensures { λ _. ⌜ Wrote (now (positions .entry)) (now (normals .entry)) (now (tags .entry)) v
         (skinPositions kind (now (points .entry)) (now (guides .entry)) n)
         (skinNormals kind (now (points .entry)) (now (guides .entry)) n)
@@ -253,7 +253,7 @@ pub fn tube_vertices(
     v: usize,
     first: u32,
 )
-    requires { ⌜ Residues (now flags) (now course) n first × Room (now positions) (now normals) (now tags) (v + vertexCount n) ⌝ }
+    requires { ⌜ Residues (now flags) (now course) n first × VertexRoom (now positions) (now normals) (now tags) (v + vertexCount n) ⌝ }
     ensures { λ _. ⌜ Wrote (now (positions .entry)) (now (normals .entry)) (now (tags .entry)) v
         (positionsOf kind (take (3 * n) (now (course .entry))) (oxygenAt (now (flags .entry)) (drop (3 * n) (now (course .entry)))) n)
         (normalsOf kind (take (3 * n) (now (course .entry))) (oxygenAt (now (flags .entry)) (drop (3 * n) (now (course .entry)))) n)

@@ -15,7 +15,7 @@ use Rattle.job.specs.Check.{sizes, badVisibility, badKind, stray, badAtom, badC
 use Rattle.job.specs.Refusals.{numberOf, carried}
 use Rattle.tables.specs.Wants.{wants, gives, chainOf}
 use Rattle.stretch.specs.Stretch.{inside}
-use Rattle.protein.specs.Places.{coordinate, placeOf, far, farBy}
+use Rattle.protein.specs.Places.{coordinateAt, placeOf, far, farBy}
 use Rattle.edges.specs.Cases.{sameWords}
 use Rattle.tubes.specs.Pieces.{pieces, apart}
 use Rattle.tubes.specs.Frames.{chosen}
@@ -55,10 +55,10 @@ planIs (NoPlan r) n l five = eqb n (numberOf r) && sameWords (carried r) l
 
 -- build answers so to the bytes s
 unfoldable pub builds : List ℕ → Lent → ℕ → List ℕ → Bool
-unfolding sameWords buildAnswer buildChecks shortScratch tooMany tight jobTubes tubeList vertexSum triangleSum vertices triangles check sizes contents first last u16At u32At u64At within ofBits ofFields odd trailingZeros le lt eq stray badVisibility badKind badAtom badCoordinate tubes joined segmentTubes coilTubes runTubes tubesOf tubeOf extended joins loose covered counts frames segmentAlpha coilAlpha alphaOf gap shown any chosen chainOf gives wants inside pieces apart farBy far vlength vsub vdot placeOf coordinate add sub mul root narrowed round
+unfolding sameWords buildAnswer buildChecks shortScratch tooMany tight jobTubes tubeList vertexSum triangleSum vertices triangles check sizes contents first last u16At u32At u64At within ofBits ofFields odd trailingZeros le lt eq stray badVisibility badKind badAtom badCoordinate tubes joined segmentTubes coilTubes runTubes tubesOf tubeOf extended joins loose covered counts frames segmentAlpha coilAlpha alphaOf gap shown any chosen chainOf gives wants inside pieces apart farBy far vlength vsub vdot placeOf coordinateAt add sub mul root narrowed round
 builds s l n carried = meshIs (buildAnswer s l) n carried
 
 -- plan answers so
 unfoldable pub plans : List ℕ → ℕ → ℕ → ℕ → List ℕ → List ℕ → Bool
-unfolding sameWords planAnswer planChecks wordsAt shortScratch tooMany jobTubes tubeList vertexSum triangleSum vertices triangles check sizes contents first last u16At u32At u64At within ofBits ofFields odd trailingZeros le lt eq stray badVisibility badKind badAtom badCoordinate tubes joined segmentTubes coilTubes runTubes tubesOf tubeOf extended joins loose covered counts frames segmentAlpha coilAlpha alphaOf gap shown any chosen chainOf gives wants inside pieces apart farBy far vlength vsub vdot placeOf coordinate add sub mul root narrowed round
+unfolding sameWords planAnswer planChecks wordsAt shortScratch tooMany jobTubes tubeList vertexSum triangleSum vertices triangles check sizes contents first last u16At u32At u64At within ofBits ofFields odd trailingZeros le lt eq stray badVisibility badKind badAtom badCoordinate tubes joined segmentTubes coilTubes runTubes tubesOf tubeOf extended joins loose covered counts frames segmentAlpha coilAlpha alphaOf gap shown any chosen chainOf gives wants inside pieces apart farBy far vlength vsub vdot placeOf coordinateAt add sub mul root narrowed round
 plans s k r n carried five = planIs (planAnswer s k (8 * r) (32 * r)) n carried five

@@ -24,8 +24,8 @@ abbrev pub requestOf : List ℕ → Request
 requestOf h = record { call = u8At h 0; lent = lengthsOf h; k = u32At h 33; bytes = u32At h 37 }
 
 -- the sum of two lengths is far below 2^64
-abbrev pub Small : Request → Type 0
-Small r = (r .lent .tubes < 4294967296) × (r .lent .triangles < 4294967296)
+abbrev pub SmallLengths : Request → Type 0
+SmallLengths r = (r .lent .tubes < 4294967296) × (r .lent .triangles < 4294967296)
 
 -- a program whose arrays have the lengths own serves a request for these
 pub record Within (lent own : Lengths) : Type 0 where

@@ -3,7 +3,7 @@ ghost use mathlib.Core.Path.{_≡_};
 ghost use mathlib.Core.Bool.{true};
 ghost use Prim.Native.Nat.{_≤_};
 ghost use lib.ListN.{length};
-ghost use Rattle.stream.specs.Requests.{requestOf, Small, Within, known, Serves};
+ghost use Rattle.stream.specs.Requests.{requestOf, SmallLengths, Within, known, Serves};
 
 // How many places are lent of each buffer.
 pub struct Lengths {
@@ -26,7 +26,7 @@ pub struct Request {
 
 pub fn request_of(head: &[u8]) -> Request
     requires { ⌜ 41 ≤ length (now head) ⌝ }
-    ensures { λ r. ⌜ (r ≡ requestOf (now (head .entry))) × Small r ⌝ }
+    ensures { λ r. ⌜ (r ≡ requestOf (now (head .entry))) × SmallLengths r ⌝ }
 {
     let lent = Lengths {
         positions: numbers::u32_at(head, 1),
@@ -79,7 +79,7 @@ fn is_within(lent: Lengths, own: Lengths) -> bool
 
 // Whether a request is one that is answered.
 fn is_known(r: Request) -> bool
-    requires { ⌜ Small r ⌝ }
+    requires { ⌜ SmallLengths r ⌝ }
     ensures { λ a. ⌜ a ≡ known r ⌝ }
 {
     if r.call == 1 {
@@ -97,7 +97,7 @@ fn is_known(r: Request) -> bool
 
 // Whether a program answers a request by a call: it knows it, and has room for the lent buffers and the bytes.
 pub fn is_served(r: Request, own: Lengths, room: usize) -> bool
-    requires { ⌜ Small r ⌝ }
+    requires { ⌜ SmallLengths r ⌝ }
     ensures { λ a. ⌜ (a ≡ true → Serves r own room) × (Serves r own room → a ≡ true) ⌝ }
 {
     let lent = r.lent;

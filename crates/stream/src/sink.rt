@@ -2,7 +2,7 @@
 ghost use mathlib.Core.Path.{_≡_};
 ghost use Prim.Native.Nat.{_+_, _*_, _≤_, _<_, min};
 ghost use lib.ListN.{length};
-ghost use Rattle.stream.specs.Sinks.{Ready};
+ghost use Rattle.stream.specs.Sinks.{SinkReady};
 use numbers::words::put_bytes;
 use numbers::words::put_floats;
 use numbers::words::put_words;
@@ -74,7 +74,7 @@ fn least(a: usize, b: usize) -> usize
 // The sink after n more bytes of the block were filled; handed on where there is no room for one more word.
 fn advance(s: Sink, out: &[u8], n: usize) -> Sink
     requires { ⌜ (s .at + n ≤ length (now out)) × (4 ≤ length (now out)) ⌝ }
-    ensures { λ r. ⌜ Ready r (length (now (out .entry))) ⌝ }
+    ensures { λ r. ⌜ SinkReady r (length (now (out .entry))) ⌝ }
 {
     let mode = s.mode;
     let at = s.at + n;
@@ -91,8 +91,8 @@ fn advance(s: Sink, out: &[u8], n: usize) -> Sink
 }
 
 pub fn send_words(s: Sink, out: &mut [u8], w: &[u32]) -> Sink
-    requires { ⌜ Ready s (length (now out)) ⌝ }
-    ensures { λ r. ⌜ Ready r (length (now (out .entry))) ⌝ }
+    requires { ⌜ SinkReady s (length (now out)) ⌝ }
+    ensures { λ r. ⌜ SinkReady r (length (now (out .entry))) ⌝ }
 {
     let mut t = s;
     let mut i = 0;
@@ -108,8 +108,8 @@ pub fn send_words(s: Sink, out: &mut [u8], w: &[u32]) -> Sink
 }
 
 pub fn send_floats(s: Sink, out: &mut [u8], f: &[f32]) -> Sink
-    requires { ⌜ Ready s (length (now out)) ⌝ }
-    ensures { λ r. ⌜ Ready r (length (now (out .entry))) ⌝ }
+    requires { ⌜ SinkReady s (length (now out)) ⌝ }
+    ensures { λ r. ⌜ SinkReady r (length (now (out .entry))) ⌝ }
 {
     let mut t = s;
     let mut i = 0;
@@ -125,8 +125,8 @@ pub fn send_floats(s: Sink, out: &mut [u8], f: &[f32]) -> Sink
 }
 
 pub fn send_bytes(s: Sink, out: &mut [u8], b: &[u8]) -> Sink
-    requires { ⌜ Ready s (length (now out)) ⌝ }
-    ensures { λ r. ⌜ Ready r (length (now (out .entry))) ⌝ }
+    requires { ⌜ SinkReady s (length (now out)) ⌝ }
+    ensures { λ r. ⌜ SinkReady r (length (now (out .entry))) ⌝ }
 {
     let mut t = s;
     let mut i = 0;

@@ -18,7 +18,7 @@ use Rattle.job.specs.declared.Checked.{Checked}
 use Rattle.job.specs.declared.Checked.the-variants.{Fine, Refused}
 use Rattle.tables.specs.Wants.{wants, gives, chainOf}
 use Rattle.stretch.specs.Stretch.{inside}
-use Rattle.protein.specs.Places.{coordinate, placeOf, far, farBy}
+use Rattle.protein.specs.Places.{coordinateAt, placeOf, far, farBy}
 use Rattle.edges.specs.Cases.{sameWords}
 use Rattle.tubes.specs.Pieces.{pieces, apart}
 use Rattle.tubes.specs.Frames.{chosen}
@@ -101,12 +101,12 @@ refusedAs (Refused r) n l = eqb (numberOf r) n && sameWords (carried r) l
 
 -- 'helix (2,3), coils (0,1,2), (3,4,5)': the bytes pass the checks, and these are the tubes
 unfoldable pub givesTubes : List ℕ → List Tube → Bool
-unfolding sameTubes check sizes contents first badVisibility badKind badAtom badCoordinate stray within u16At u32At u64At last gives wants inside chosen pieces apart chainOf any shown coilAlpha segmentAlpha alphaOf frames counts covered gap tubeOf tubesOf runTubes segmentTubes joined loose joins extended coilTubes tubes tubeList farBy far vlength vsub vdot placeOf coordinate lt eq le ofBits ofFields odd trailingZeros add sub mul root narrowed round
+unfolding sameTubes check sizes contents first badVisibility badKind badAtom badCoordinate stray within u16At u32At u64At last gives wants inside chosen pieces apart chainOf any shown coilAlpha segmentAlpha alphaOf frames counts covered gap tubeOf tubesOf runTubes segmentTubes joined loose joins extended coilTubes tubes tubeList farBy far vlength vsub vdot placeOf coordinateAt lt eq le ofBits ofFields odd trailingZeros add sub mul root narrowed round
 givesTubes s us = ifFine (check s) (λ h. sameTubes (tubeList (proteinOf s h)) us)
 
 -- 'K, V, T all 0', 'V 350, T 688'
 unfoldable pub givesTotals : List ℕ → ℕ → ℕ → ℕ → Bool
-unfolding vertexSum triangleSum vertices triangles check sizes contents first badVisibility badKind badAtom badCoordinate stray within u16At u32At u64At last gives wants inside chosen pieces apart chainOf any shown coilAlpha segmentAlpha alphaOf frames counts covered gap tubeOf tubesOf runTubes segmentTubes joined loose joins extended coilTubes tubes tubeList farBy far vlength vsub vdot placeOf coordinate lt eq le ofBits ofFields odd trailingZeros add sub mul root narrowed round
+unfolding vertexSum triangleSum vertices triangles check sizes contents first badVisibility badKind badAtom badCoordinate stray within u16At u32At u64At last gives wants inside chosen pieces apart chainOf any shown coilAlpha segmentAlpha alphaOf frames counts covered gap tubeOf tubesOf runTubes segmentTubes joined loose joins extended coilTubes tubes tubeList farBy far vlength vsub vdot placeOf coordinateAt lt eq le ofBits ofFields odd trailingZeros add sub mul root narrowed round
 givesTotals s k v t =
     ifFine (check s) (λ h. eqb (length (tubeList (proteinOf s h))) k && (eqb (vertexSum (tubeList (proteinOf s h))) v && eqb (triangleSum (tubeList (proteinOf s h))) t))
 

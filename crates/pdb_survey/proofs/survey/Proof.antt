@@ -3,7 +3,7 @@ use Prim.Native.Nat.{_-_}
 use lib.ListN.{length}
 use native.Mathlib.Omega.{arith}
 use mathlib.Core.Path.{_∙_, ap}
-use Rattle.pdb_file.specs.Faults.{firstOf}
+use Rattle.pdb_file.specs.Faults.{firstFault}
 use Rattle.pdb_file.proofs.Laws.{stepped-done, stepped-got}
 use Rattle.pdb_survey.proofs.Walk.{Surveying, surveying-start, surveying-over, surveying-more}
 use Rattle.pdb_survey.proofs.survey.Statement.{statement}
@@ -41,7 +41,7 @@ loop-again c =
     let loop = c .before .before .before .before .before .before .before .before .before .before .before .before .loop in
     let o = stepped-got _ _ _ _ _ _ _ (c .before .before .before .before .before .before .before .before .before .before .before .step .ensures) (c .before .before .before .before .before .before .before .before .before .n .given .1) in
     surveying-more _ _ _ _ _ _ _ _ _ _ _ (loop .inv) _ _ _ o _ _ _ _ _ _ _ (c .note .ensures .0 _ (loop .inv .noted))
-    (c .before .before .before .before .before .before .first-of .ensures ∙ ap (firstOf (loop .fault)) (c .before .before .before .before .before .before .before .own-fault .ensures)) (c .before .before .before .before .before .count-segment .ensures .0) (c .before .before .before .before .before .count-segment .ensures .1) (c .note .ensures .1) (c .note .ensures .2)
+    (c .before .before .before .before .before .before .first-of .ensures ∙ ap (firstFault (loop .fault)) (c .before .before .before .before .before .before .before .own-fault .ensures)) (c .before .before .before .before .before .count-segment .ensures .0) (c .before .before .before .before .before .count-segment .ensures .1) (c .note .ensures .1) (c .note .ensures .2)
 
 pub survey-spec : {M : Type 1} → statement M
 survey-spec =

@@ -4,12 +4,12 @@ use lib.ListN.{length, length-take, length-drop}
 use native.Mathlib.Omega.{arith}
 use borrow.Author.Needs.{needs}
 use Rattle.lists.proofs.Puts.{kept}
-use Rattle.stream.specs.Sinks.{Ready}
+use Rattle.stream.specs.Sinks.{SinkReady}
 use Rattle.stream.proofs.sink.send_floats.Statement.{statement}
 use Rattle.stream.proofs.sink.send_floats.Tie as tie
 
 abbrev Inv-loop : tie.InvT-loop
-Inv-loop out₀ f t₀ i₀ out t i = (i ≤ length f) × (length out ≡ length out₀) × Ready t (length out₀)
+Inv-loop out₀ f t₀ i₀ out t i = (i ≤ length f) × (length out ≡ length out₀) × SinkReady t (length out₀)
 
 abbrev μ-loop : tie.MeasureT-loop
 μ-loop out₀ f t₀ i₀ out t i = length f - i
