@@ -48,8 +48,9 @@ fn proved_plan(job: &[u8], b: &mut Buffers) -> [u32; 9] {
     answer
 }
 
-/// A chain of `present` residues of `each` atoms, C-alpha first and then O, with `segments` helices and sheets spread over it.
-fn job(residues: u16, present: u16, each: u32, segments: u16) -> Vec<u8> {
+/// A chain of `present` residues of `each` atoms, C-alpha first and then O, with `segments` helices and sheets spread over it. Serials
+/// ascend, or all but the last atom's do, which is then 0.
+fn job(residues: u16, present: u16, each: u32, segments: u16, ascend: bool) -> Vec<u8> {
     let mut atoms = Vec::new();
     for r in 0..present {
         let t = r as f64;
@@ -64,6 +65,9 @@ fn job(residues: u16, present: u16, each: u32, segments: u16) -> Vec<u8> {
                 xyz: [x + d, y - d, (t * 1.5) % 16000.0 + d],
             });
         }
+    }
+    if !ascend {
+        atoms.last_mut().expect("an atom").serial = 0;
     }
     let step = (present as u32 / segments.max(1) as u32).max(1);
     let length = (step * 2 / 3).max(2);
@@ -99,7 +103,7 @@ fn fastest<const N: usize>(mut runs: [&mut dyn FnMut(); N]) -> [f64; N] {
     best
 }
 
-fn row(residues: u16, each: u32, segments: u16) {
+fn row(residues: u16, each: u32, segments: u16, ascend: bool) {
     let room = |v: usize, t: usize, k: usize| Buffers {
         positions: vec![0.0; 3 * v],
         normals: vec![0.0; 3 * v],
@@ -115,7 +119,7 @@ fn row(residues: u16, each: u32, segments: u16) {
     let (present, bytes, plan) = (0..residues)
         .step_by(64)
         .map(|less| residues - less)
-        .map(|present| (present, job(residues, present, each, segments)))
+        .map(|present| (present, job(residues, present, each, segments, ascend)))
         .map(|(present, bytes)| (present, proved_plan(&bytes, &mut none), bytes))
         .find(|(_, plan, _)| plan[0] == 0)
         .map(|(present, plan, bytes)| (present, bytes, plan))
@@ -153,16 +157,22 @@ fn main() {
         "R", "present", "S", "V", "rust", "bytes", "proved", "plan", "to rust", "to bytes", "plan/build"
     );
     for segments in [0, 20, 2000] {
-        row(300, 8, segments);
+        row(300, 8, segments, true);
     }
     for segments in [0, 20, 2000] {
-        row(16_384, 3, segments);
+        row(16_384, 3, segments, true);
     }
     println!("how the cost grows with R, S = 0, and with S, R = 2000");
     for residues in [75, 300, 1200, 4800] {
-        row(residues, 3, 0);
+        row(residues, 3, 0, true);
     }
     for segments in [1, 10, 100, 1000] {
-        row(2000, 3, segments);
+        row(2000, 3, segments, true);
+    }
+    println!("where serials do not ascend");
+    for (residues, each) in [(300, 8), (16_384, 3)] {
+        for segments in [20, 2000] {
+            row(residues, each, segments, false);
+        }
     }
 }

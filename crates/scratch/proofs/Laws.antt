@@ -10,7 +10,7 @@ use lib.ListN.{length, getD, set, length-set}
 use lib.Seq.{getD-set-same, getD-set-other}
 use lib.Dec.{eqb}
 use borrow.Author.Tests.{eqb-true, eqb-false}
-use Rattle.scratch.specs.Scratch.{Filled, Kept}
+use Rattle.scratch.specs.Scratch.{Filled, Both, Kept}
 use native.Mathlib.Numerals.{add-one}
 
 -- a store at r₀'s place makes the table that of g, where g differs from f at r₀ alone
@@ -88,11 +88,53 @@ kept-trans lo hi t u v a b = record {
   after = λ j h. b .after j h ∙ a .after j h;
 }
 
--- places that were cleared and then filled
-pub fill-cleared : (f : ℕ → ℕ) (base n : ℕ) (t₀ t₁ t₂ : List ℕ) → Filled (λ r. 0) base n t₀ t₁ → Filled f base n t₁ t₂ → Filled f base n t₀ t₂
-fill-cleared f base n t₀ t₁ t₂ F G = record {
+-- a table that is filled anew
+pub fill-again : (f g : ℕ → ℕ) (base n : ℕ) (t₀ t₁ t₂ : List ℕ) → Filled f base n t₀ t₁ → Filled g base n t₁ t₂ → Filled g base n t₀ t₂
+fill-again f g base n t₀ t₁ t₂ F G = record {
   size = G .size ∙ F .size;
   entry = G .entry;
   before = λ j l. G .before j l ∙ F .before j l;
   after = λ j l. G .after j l ∙ F .after j l;
+}
+
+-- two tables, of which the first is filled anew, or the second
+module _ (f g : ℕ → ℕ) (a o n : ℕ) (t₀ t t′ : List ℕ) (apart : a + n ≤ o) (B : Both f g a o n t₀ t) where
+  pub both-first : (f′ : ℕ → ℕ) → Filled f′ a n t t′ → Both f′ g a o n t₀ t′
+  both-first f′ F = record {
+    size = F .size ∙ B .size;
+    first = F .entry;
+    second = λ r h. F .after (o + r) (omega arith) ∙ B .second r h;
+    before = λ j h. F .before j h ∙ B .before j h;
+    after = λ j h. F .after j (omega arith) ∙ B .after j h;
+  }
+
+  pub both-second : (g′ : ℕ → ℕ) → Filled g′ o n t t′ → Both f g′ a o n t₀ t′
+  both-second g′ F = record {
+    size = F .size ∙ B .size;
+    first = λ r h. F .before (a + r) (omega arith) ∙ B .first r h;
+    second = F .entry;
+    before = λ j h. F .before j (omega arith) ∙ B .before j h;
+    after = λ j h. F .after j h ∙ B .after j h;
+  }
+
+pub both-start : (f g : ℕ → ℕ) (a o n : ℕ) (t : List ℕ) → ((r : ℕ) → r < n → getD t (a + r) 0 ≡ f r) → ((r : ℕ) → r < n → getD t (o + r) 0 ≡ g r) → Both f g a o n t t
+both-start f g a o n t u v = record { size = refl; first = u; second = v; before = λ j h. refl; after = λ j h. refl }
+
+pub both-same : (f g f′ g′ : ℕ → ℕ) (a o n : ℕ) (t₀ t : List ℕ) → Both f g a o n t₀ t → ((r : ℕ) → r < n → f′ r ≡ f r) → ((r : ℕ) → r < n → g′ r ≡ g r) → Both f′ g′ a o n t₀ t
+both-same f g f′ g′ a o n t₀ t B u v = record {
+  size = B .size;
+  first = λ r h. B .first r h ∙ sym (u r h);
+  second = λ r h. B .second r h ∙ sym (v r h);
+  before = B .before;
+  after = B .after;
+}
+
+-- two tables that were cleared and then filled
+pub both-cleared : (f g : ℕ → ℕ) (a o n : ℕ) (t₀ t₁ t₂ t₃ : List ℕ) → a ≤ o → Filled (λ r. 0) a n t₀ t₁ → Filled (λ r. 0) o n t₁ t₂ → Both f g a o n t₂ t₃ → Both f g a o n t₀ t₃
+both-cleared f g a o n t₀ t₁ t₂ t₃ le F G B = record {
+  size = B .size ∙ G .size ∙ F .size;
+  first = B .first;
+  second = B .second;
+  before = λ j h. B .before j h ∙ G .before j (omega arith) ∙ F .before j h;
+  after = λ j h. B .after j h ∙ G .after j h ∙ F .after j (omega arith);
 }

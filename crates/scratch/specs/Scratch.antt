@@ -12,6 +12,14 @@ pub record Filled (f : ℕ → ℕ) (base n : ℕ) (t₀ t : List ℕ) : Type 0 
   pub before : (j : ℕ) → j < base → getD t j 0 ≡ getD t₀ j 0
   pub after : (j : ℕ) → base + n ≤ j → getD t j 0 ≡ getD t₀ j 0
 
+-- two tables of n places, at a and behind it at o: they hold f and g; the places before the first and behind the second are as they were
+pub record Both (f g : ℕ → ℕ) (a o n : ℕ) (t₀ t : List ℕ) : Type 0 where
+  pub size : length t ≡ length t₀
+  pub first : (r : ℕ) → r < n → getD t (a + r) 0 ≡ f r
+  pub second : (r : ℕ) → r < n → getD t (o + r) 0 ≡ g r
+  pub before : (j : ℕ) → j < a → getD t j 0 ≡ getD t₀ j 0
+  pub after : (j : ℕ) → o + n ≤ j → getD t j 0 ≡ getD t₀ j 0
+
 -- 1 where the test holds
 abbrev pub bit : Bool → ℕ
 bit b = cond b 1 0

@@ -9,10 +9,10 @@ ghost use lib.Dec.{eqb};
 ghost use Rattle.lists.specs.Search.{last};
 ghost use Rattle.protein.specs.Layout.{Whole};
 ghost use Rattle.tables.specs.Wants.{wants, gives, found, chainOf};
-ghost use Rattle.stretch.specs.Stretch.{inside};
+ghost use Rattle.stretch.specs.Stretch.{inside, Reaches};
 ghost use Rattle.tables.specs.Table.{Holds, keeps};
 ghost use Rattle.protein.specs.Job.{jobOf};
-ghost use Rattle.scratch.specs.Scratch.{Filled};
+ghost use Rattle.scratch.specs.Scratch.{Filled, Both};
 
 // Which atoms a table asks for.
 pub enum Want {
@@ -76,6 +76,39 @@ fn is_kept(which: Which, v: u32) -> bool
     }
 }
 
+// Atom a is noted for its residue, if it is asked for and its residue is of the part: one more than a, in the table at base, unless the entry stays.
+fn note(
+    b: &[u8],
+    h: Head,
+    which: Which,
+    w: Want,
+    a: usize,
+    residues: Part,
+    t: &mut [u32],
+    base: usize,
+)
+    requires { ⌜ Whole (now b) h × (a < h .atoms) × (base + h .residues ≤ length (now t)) × (residues .to ≤ h .residues) ⌝ }
+    requires { ⌜ ((r : ℕ) → r < residues .to - residues .from
+        → getD (now t) (base + residues .from + r) 0 ≡ found which (gives (jobOf (now b) h) w (residues .from + r)) a) ⌝ }
+    ensures { λ _. ⌜ Filled (λ r. found which (gives (jobOf (now (b .entry)) h) w (residues .from + r)) (a + 1))
+        (base + residues .from) (residues .to - residues .from) (now (t .entry)) (now (t .exit)) ⌝ }
+{
+    if !is_wanted(b, h, w, a) {
+        return;
+    }
+    let r = protein::residue(b, h, a);
+    if r < residues.from {
+        return;
+    }
+    if residues.to <= r {
+        return;
+    }
+    if is_kept(which, t[base + r]) {
+        return;
+    }
+    t[base + r] = (a + 1) as u32;
+}
+
 // For each residue of a part one more than the first or the last atom asked for, or 0, in the table at base, where those places are 0 before. Only
 // the atoms of a part are read, in which all that are asked for stand.
 pub fn fill_part(
@@ -93,20 +126,55 @@ pub fn fill_part(
     ensures { λ _. ⌜ Filled (λ r. found which (gives (jobOf (now (b .entry)) h) w (residues .from + r)) (h .atoms)) (base + residues .from) (residues .to - residues .from) (now (t .entry)) (now (t .exit)) ⌝ }
 {
     let n = atoms.to;
-    let first = residues.from;
-    let end = residues.to;
     let mut a = atoms.from;
     while a < n {
-        if is_wanted(b, h, w, a) {
-            let r = protein::residue(b, h, a);
-            if first <= r {
-                if r < end {
-                    if !is_kept(which, t[base + r]) {
-                        t[base + r] = (a + 1) as u32;
-                    }
-                }
-            }
-        }
+        note(b, h, which, w, a, residues, t, base);
+        a += 1;
+    }
+}
+
+// Both tables of a segment from one reading of the atoms: for each residue of a part one more than its last C-alpha in the range, or 0, in the table at `alphas`, and its
+// last oxygen in the one at `oxygens`, where those places are 0 before.
+pub fn fill_both(
+    b: &[u8],
+    h: Head,
+    g: Range,
+    atoms: Part,
+    residues: Part,
+    t: &mut [u32],
+    alphas: usize,
+    oxygens: usize,
+)
+    requires { ⌜ Whole (now b) h × (alphas + h .residues ≤ oxygens) × (oxygens + h .residues ≤ length (now t)) × (residues .to ≤ h .residues) × Reaches (jobOf (now b) h) g atoms ⌝ }
+    requires { ⌜ ((r : ℕ) → r < residues .to - residues .from → getD (now t) (alphas + residues .from + r) 0 ≡ 0)
+        × ((r : ℕ) → r < residues .to - residues .from → getD (now t) (oxygens + residues .from + r) 0 ≡ 0) ⌝ }
+    ensures { λ _. ⌜ Both (λ r. found Which.Last (gives (jobOf (now (b .entry)) h) (Want.SegmentAlpha g) (residues .from + r)) (h .atoms))
+        (λ r. found Which.Last (gives (jobOf (now (b .entry)) h) (Want.SegmentOxygen g) (residues .from + r)) (h .atoms))
+        (alphas + residues .from) (oxygens + residues .from) (residues .to - residues .from) (now (t .entry)) (now (t .exit)) ⌝ }
+{
+    let n = atoms.to;
+    let mut a = atoms.from;
+    while a < n {
+        note(
+            b,
+            h,
+            Which::Last,
+            Want::SegmentAlpha(g),
+            a,
+            residues,
+            t,
+            alphas,
+        );
+        note(
+            b,
+            h,
+            Which::Last,
+            Want::SegmentOxygen(g),
+            a,
+            residues,
+            t,
+            oxygens,
+        );
         a += 1;
     }
 }
