@@ -1,29 +1,24 @@
 -- Turns of the loops over a tube's residues, over plain lists and vectors.
 use mathlib.Core.Path.{_≡_, refl, sym, ap, _∙_}
-use mathlib.Core.List.{List, [], _∷_, _++_, append-nil}
+use mathlib.Core.List.{List, [], _++_, append-nil}
 use Prim.Native.Nat.{ℕ, zero, suc, _+_, _*_, _-_, _≤_}
 use native.Mathlib.Omega.{arith}
 use native.Mathlib.Nat.{add-zero, add-suc}
 use native.Mathlib.Numerals.{add-one}
-use lib.ListN.{length, getD, take, drop, set, length-drop, drop-of-length-le}
-use lib.Seq.{take-all, take-set-le, getD-drop, take-at, drop-at, length-take-le}
+use lib.ListN.{length, getD, take, drop, length-drop, drop-of-length-le}
+use lib.Seq.{getD-drop, take-at, drop-at, length-take-le}
 use lib.Ieee.{Float, nan}
 use Rattle.vectors.specs.declared.Vec3.{Vec3}
 use Rattle.vectors.specs.Vec.{vadd, floats, vecAt}
 use Rattle.lists.specs.Put.{put, upto}
-use Rattle.lists.proofs.Puts.{turn, length-put, length-upto, getD-put-past, put-eq}
+use Rattle.lists.proofs.Puts.{turn, length-put, length-upto, getD-put-past, put-all, put-tail, take-put}
 use Rattle.shape.specs.declared.Kind.{Kind}
 use Rattle.shape.specs.declared.Kind.the-variants.{Coil, Helix, Sheet}
 use Rattle.shape.specs.declared.Oxygen.{Oxygen}
 use Rattle.shape.specs.Guide.{agreeing, smoothGuide, smoothPosition}
 use Rattle.curve.specs.Smooth.{vectors, Smoothable, after, guidePiece, guidePass, positionPiece, positionPass, repeated, smoothGuides, smoothPositions}
 use Rattle.curve.specs.Residues.{oxygenAt, rawAt, signedAt, signedPiece, signed, sumOf, same, settled, guidesOf, pointsOf}
-
--- what fills the whole list is the list
-pub put-all : {A : Type 0} (l xs : List A) {b : List A} → b ≡ put l 0 xs → length l ≡ length xs → b ≡ xs
-put-all l xs e h =
-    let d : drop (0 + length xs) l ≡ [] = drop-of-length-le l {i = 0 + length xs} (omega arith) in
-    e ∙ put-eq l 0 xs (omega arith) ∙ ap (λ (r : List _). xs ++ r) d ∙ append-nil xs
+use Rattle.lists.proofs.Any.{rest}
 
 pub whole : (f : ℕ → List Float) (n m : ℕ) (l : List Float) {b : List Float} → ((k : ℕ) → length (f k) ≡ 3)
     → b ≡ put l 0 (upto f m) → length l ≡ 3 * n → m ≡ n → b ≡ upto f n
@@ -114,18 +109,6 @@ pub positions-in-stages : (a b n : ℕ) (l : List Float) → smoothPositions b n
 unfolding smoothPositions
 positions-in-stages a b n l = repeated-add (positionPass n) a b l
 
--- what stands before the written part is as it was
-pub take-put : {A : Type 0} (k : ℕ) (l : List A) (i : ℕ) (xs : List A) → k ≤ i → take k (put l i xs) ≡ take k l
-unfolding put
-take-put k l i [] h = refl
-take-put k l i (x ∷ xs) h = take-put k (set l i x) (suc i) xs (omega arith) ∙ take-set-le k l i x h
-
--- what is written from a on to the end
-pub put-tail : {A : Type 0} (l xs : List A) (a : ℕ) {b : List A} → b ≡ put l a xs → length l ≡ a + length xs → b ≡ take a l ++ xs
-put-tail l xs a e h =
-    let d : drop (a + length xs) l ≡ [] = drop-of-length-le l {i = a + length xs} (omega arith) in
-    e ∙ put-eq l a xs (omega arith) ∙ ap (λ (r : List _). take a l ++ xs ++ r) d ∙ append-nil (take a l ++ xs)
-
 -- a residue whose oxygen has not been written over has the same raw guide
 pub raw-still : (flags : List ℕ) (n : ℕ) (l : List Float) (f : ℕ → List Float) (i j : ℕ) {b : List Float} → ((k : ℕ) → length (f k) ≡ 3)
     → b ≡ put l (3 * n) (upto f i) → i ≤ j
@@ -144,10 +127,6 @@ signed-whole flags n m l e h hm =
     let raw = rawAt (take (3 * n) l) (oxygenAt flags (drop (3 * n) l)) n in
     put-tail l (upto (signedPiece raw) n) (3 * n) (e ∙ ap (λ (k : ℕ). put l (3 * n) (upto (signedPiece raw) k)) hm)
     (omega (arith, length-upto (signedPiece raw) 3 n (λ _ _. refl)))
-
--- the part from a on, as the code's loan has it
-pub rest : {A : Type 0} (a : ℕ) (l : List A) → take (length l - a) (drop a l) ≡ drop a l
-rest a l = take-all (length l - a) (drop a l) (simp length-drop (omega arith))
 
 pub vectors-of : (l : List Float) (n : ℕ) → length l ≡ 3 * n → vectors l ≡ n
 vectors-of l n h = rw h (omega arith)

@@ -7,11 +7,7 @@ use lib.ListN.{length, getD, length-map}
 use Rattle.edges.specs.Sound.{Edge, edges, CornersIn, EdgesPaired, Sound, MeshPart}
 use Rattle.edges.specs.Tube.{renumbered}
 use Rattle.edges.proofs.Owned.{edge, length-edges, owned, paired}
-
-map-at : (f : ℕ → ℕ) (l : List ℕ) (i : ℕ) → i < length l → getD (map f l) i 0 ≡ f (getD l i 0)
-map-at f [] i h = absurd (omega arith)
-map-at f (c ∷ l) zero h = refl
-map-at f (c ∷ l) (suc i) h = map-at f l i (omega arith)
+use Rattle.lists.proofs.Any.{map-at}
 
 abbrev turn : (ℕ → ℕ) → Edge → Edge
 turn f e = (f (e .0), f (e .1))

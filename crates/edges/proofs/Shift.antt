@@ -10,11 +10,7 @@ use mathlib.Core.Logic.{⊎-elim}
 use Rattle.lists.specs.Put.{upto}
 use Rattle.edges.specs.Tube.{capSide, bandSide, cap, band, ring, bandAt, startCentre, endCentre, stack, tube, vertices, mesh, renumbered}
 use Rattle.edges.proofs.Count.{lt-or-le}
-
-map-upto : (h : ℕ → ℕ) (f g : ℕ → List ℕ) (n : ℕ) → ((k : ℕ) → map h (f k) ≡ g k) → map h (upto f n) ≡ upto g n
-unfolding upto
-map-upto h f g zero e = refl
-map-upto h f g (suc n) e = map-append h (upto f n) (f n) ∙ ap₂ _++_ (map-upto h f g n e) (e n)
+use Rattle.lists.proofs.Puts.{map-upto}
 
 module _ (p o : ℕ) where
   abbrev up : ℕ → ℕ

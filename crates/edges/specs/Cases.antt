@@ -1,18 +1,12 @@
 -- 01's starred cases of counts and triangles, as tests that compute; proofs/Cases has their table.
-use mathlib.Core.Bool.{Bool, true, false, _&&_}
-use mathlib.Core.List.{List, [], _∷_}
+use mathlib.Core.Bool.{Bool, _&&_}
+use mathlib.Core.List.{List}
 use Prim.Native.Nat.{ℕ, _*_}
 use lib.Dec.{eqb}
 use lib.ListN.{length, take, drop}
 use Rattle.lists.specs.Put.{upto}
 use Rattle.edges.specs.Tube.{rings, vertices, triangles, ring, next, cap, band, stack, tube, vertexTotal, triangleTotal}
-
--- the same numbers in the same order
-unfoldable pub sameWords : List ℕ → List ℕ → Bool
-sameWords [] [] = true
-sameWords (a ∷ l) (b ∷ m) = eqb a b && sameWords l m
-sameWords [] (b ∷ m) = false
-sameWords (a ∷ l) [] = false
+use Rattle.lists.specs.Same.{sameList}
 
 -- 'n = 2 gives 9 rings'
 unfoldable pub givesRings : ℕ → ℕ → Bool
@@ -31,5 +25,5 @@ allGive ns v t = eqb (vertexTotal 8 8 ns) v && eqb (triangleTotal 8 8 ns) t
 
 -- 'First triangles at n = 2: (8,1,0), eight in all, then (0,10,9), (0,1,10); end cap starts (73,65,66)': these corners stand from triangle t on
 unfoldable pub trianglesFrom : ℕ → ℕ → List ℕ → Bool
-unfolding tube stack cap band upto ring next sameWords
-trianglesFrom n t corners = sameWords (take (length corners) (drop (3 * t) (tube 8 8 0 n))) corners
+unfolding tube stack cap band upto ring next sameList
+trianglesFrom n t corners = sameList (take (length corners) (drop (3 * t) (tube 8 8 0 n))) corners

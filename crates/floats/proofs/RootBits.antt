@@ -28,9 +28,6 @@ same-no-nan (fin s m d) e = tt
 
 -- ---- m * 2 ^ (23 + g % 2), with m of 24 digits
 module _ (m g : ℕ) (lo : 2 ^ 23 ≤ m) (hi : m < 2 ^ 24) where
-  scaled : ℕ
-  scaled = m * 2 ^ (23 + g % 2)
-
   shift-le : 23 + g % 2 ≤ 24
   shift-le = omega arith
 

@@ -1,6 +1,6 @@
 -- Check 8 on bit patterns: a coordinate is within -16384 to 16384 where its bits without the sign are at most those of 16384. Assumes nothing.
 use Prim.Native.Nat.{ℕ, zero, suc, _+_, _*_, _/_, _%_, _^_, _<_, _≤_}
-use mathlib.Core.Bool.{Bool, true, false, not, _&&_, _||_, cond}
+use mathlib.Core.Bool.{Bool, true, false, not, _&&_, _||_, cond, and-true}
 use mathlib.Core.Path.{_≡_, refl, sym, ap, _∙_}
 use mathlib.Core.Logic.{⊎-elim}
 use native.Mathlib.Nat.{mul-right-comm, mul-le-mul-right, le-of-mul-le-mul-right, le-trans, le-of-eq, lt-of-lt-of-le, lt-of-le-of-lt, eq-or-lt-of-le, lt-of-mul-lt-mul-right, mul-lt-mul-of-pos-right, mul-le-mul}
@@ -8,11 +8,12 @@ use native.Mathlib.Omega.{arith}
 use lib.IntN.{ℤ, pos}
 use lib.Dec.{leb, ltb, eqb, leb→le}
 use lib.Pow.{pow-pos, pow-mono}
-use borrow.Author.Tests.{lt-ltb, le-ltb, le-leb, lt-leb, eq-eqb, ne-eqb, leb-true, leb-false, ltb-true, ltb-false, eqb-true, eqb-false}
+use borrow.Author.Tests.{lt-ltb, le-ltb, le-leb, lt-leb, eq-eqb, ne-eqb, leb-true, leb-false, ltb-true, ltb-false, eqb-true}
 use lib.Ieee.{Float, nan, inf, fin, binary64, up, down, le, odd, ofFields, ofBits}
 use lib.Ieee.Fits.{down-pos}
 use lib.Ieee.Exact.{HasValue, odd-sign}
 use Rattle.job.specs.Coordinate.{within}
+use Rattle.lists.proofs.Bools.{eqb-sym}
 
 -- the range's test at a float
 ranged : Float → Bool
@@ -33,17 +34,6 @@ le-or a b = go (leb a b) refl
         let l = leb-false a b e in
         rw (le-ltb a b (omega arith), ne-eqb a b (λ q. omega arith))
 
-eqb-swap : (a b : ℕ) → eqb a b ≡ eqb b a
-eqb-swap a b = go (eqb b a) refl
-  where
-    go : (t : Bool) → eqb b a ≡ t → eqb a b ≡ t
-    go true e = eq-eqb a b (sym (eqb-true b a e))
-    go false e = ne-eqb a b (λ q. eqb-false b a e (sym q))
-
-and-true : (b : Bool) → (b && true) ≡ b
-and-true true = refl
-and-true false = refl
-
 ranged-fin : (t : Bool) (n : ℕ) (d : ℤ) → ranged (fin t n d) ≡ leb (n * up d * 1) (16384 * down d)
 unfolding ranged le
 ranged-fin false n d =
@@ -51,7 +41,7 @@ ranged-fin false n d =
     rw (lt-ltb 0 (16384 * down d + n * up d * 1) (omega arith), le-or)
 ranged-fin true n d =
     let p = down-pos d in
-    rw (lt-ltb 0 (n * up d * 1 + 16384 * down d) (omega arith), and-true, eqb-swap (16384 * down d) (n * up d * 1), le-or)
+    rw (lt-ltb 0 (n * up d * 1 + 16384 * down d) (omega arith), and-true, eqb-sym (16384 * down d) (n * up d * 1), le-or)
 
 leb-cross : (x de c a : ℕ) → 0 < c → 0 < de → x * c ≡ a * de → leb (x * 1) (16384 * de) ≡ leb a (16384 * c)
 leb-cross x de c a C D e = go (leb a (16384 * c)) refl

@@ -1,25 +1,16 @@
 -- Writing records one after another, and the whole job. Assumes nothing.
-use Prim.Native.Nat.{ℕ, zero, suc, _+_, _*_}
+use Prim.Native.Nat.{ℕ, _+_, _*_}
 use mathlib.Core.Path.{_≡_, refl, sym, ap, _∙_}
 use mathlib.Core.List.{List, [], _∷_, _++_, append-assoc}
 use native.Mathlib.Nat.{mul-suc, add-comm}
 use native.Mathlib.Omega.{arith}
 use lib.ListN.{length, replicate, length-append, length-replicate}
-use Rattle.lists.specs.Put.{put, upto}
+use Rattle.lists.specs.Put.{put}
 use Rattle.numbers.specs.Bytes.{u16, u32, u64}
 use Rattle.numbers.proofs.Laws.{seq}
 use Rattle.job_writer.specs.Job.{flat, segmentBytes, point, atomBytes, headBytes, jobBytes}
 use Rattle.job_writer.specs.declared.JobAtom.{JobAtom}
 use Rattle.job_writer.specs.declared.JobSegment.{JobSegment}
-
-snoc : (n x : ℕ) → replicate n x ++ (x ∷ []) ≡ replicate (suc n) x
-snoc zero x = refl
-snoc (suc n) x = ap (λ (l : List ℕ). x ∷ l) (snoc n x)
-
-pub upto-replicate : (x n : ℕ) → replicate n x ≡ upto (λ (j : ℕ). x ∷ []) n
-unfolding upto
-upto-replicate x zero = refl
-upto-replicate x (suc n) = sym (snoc n x) ∙ ap (λ (l : List ℕ). l ++ (x ∷ [])) (upto-replicate x n)
 
 -- ---- how long the records are
 pub wide-segment : (g : JobSegment) → length (segmentBytes g) ≡ 9

@@ -7,6 +7,7 @@ use native.Mathlib.Nat.{eq-or-lt-of-le, le-of-suc-le-suc}
 use native.Mathlib.Numerals.{add-one}
 use native.Mathlib.Omega.{arith}
 use Rattle.lists.specs.Search.{orElse, first, last}
+use Rattle.lists.proofs.Bools.{clash}
 
 -- ---- the first number below n that a test takes
 -- none is taken
@@ -29,7 +30,75 @@ first-suc t (suc n) i l h e =
 pub first-at : (t : ℕ → Bool) (n i : ℕ) → i < n → ((k : ℕ) → k < i → t k ≡ false) → t i ≡ true → first t n ≡ i + 1
 first-at t n i l h e = first-suc t n i l h e ∙ sym (add-one i)
 
+-- a turn of a search
+pub first-zero : (t : ℕ → Bool) → first t 0 ≡ 0
+unfolding first
+first-zero t = refl
+
+pub first-yes : (t : ℕ → Bool) (n : ℕ) → first t n ≡ 0 → t n ≡ true → first t (n + 1) ≡ n + 1
+unfolding first
+first-yes t n z e = rw (add-one, z, e)
+
+orElse-zero : (a : ℕ) → orElse a 0 ≡ a
+orElse-zero zero = refl
+orElse-zero (suc a) = refl
+
+pub first-no : (t : ℕ → Bool) (n : ℕ) → t n ≡ false → first t (n + 1) ≡ first t n
+unfolding first
+first-no t n e = rw (add-one, e, orElse-zero)
+
+orElse-left : (a b : ℕ) → (a ≡ 0 → ⊥) → orElse a b ≡ a
+orElse-left zero b h = absurd (h refl)
+orElse-left (suc a) b h = refl
+
+pub first-kept : (t : ℕ → Bool) (n : ℕ) → (first t n ≡ 0 → ⊥) → first t (n + 1) ≡ first t n
+unfolding first
+first-kept t n h = rw (add-one, orElse-left (first t n) _ h)
+
+pub first-le : (t : ℕ → Bool) (n : ℕ) → first t n ≤ n
+unfolding first
+first-le t zero = omega arith
+first-le t (suc n) = go (first t n) (first-le t n) (t n)
+  where
+    go : (a : ℕ) → a ≤ n → (b : Bool) → orElse a (cond b (suc n) zero) ≤ suc n
+    go zero h true = omega arith
+    go zero h false = omega arith
+    go (suc a) h b = omega arith
+
+-- where one is taken there is a first, and where there is no first none is taken
+pub some-first : (t : ℕ → Bool) (n i : ℕ) → i < n → t i ≡ true → 0 < first t n
+unfolding first
+some-first t zero i l e = absurd (omega arith)
+some-first t (suc n) i l e = ⊎-elim (λ q. rw (← q, e) (at (first t i))) (λ m. earlier (first t n) (some-first t n i m e)) (eq-or-lt-of-le (le-of-suc-le-suc l))
+  where
+    at : (a : ℕ) → 0 < orElse a (suc i)
+    at zero = omega arith
+    at (suc a) = omega arith
+
+    earlier : (a : ℕ) → 0 < a → 0 < orElse a (cond (t n) (suc n) zero)
+    earlier zero h = absurd (omega arith)
+    earlier (suc a) h = h
+
+pub first-false : (t : ℕ → Bool) (n : ℕ) → first t n ≡ 0 → (i : ℕ) → i < n → t i ≡ false
+first-false t n e i l = go (t i) refl
+  where
+    go : (b : Bool) → t i ≡ b → t i ≡ false
+    go true q = absurd (omega (arith, some-first t n i l q))
+    go false q = q
+
 -- ---- the last
+pub last-zero : (t : ℕ → Bool) → last t 0 ≡ 0
+unfolding last
+last-zero t = refl
+
+pub last-yes : (t : ℕ → Bool) (n : ℕ) → t n ≡ true → last t (n + 1) ≡ n + 1
+unfolding last
+last-yes t n e = rw (add-one, e)
+
+pub last-no : (t : ℕ → Bool) (n : ℕ) → t n ≡ false → last t (n + 1) ≡ last t n
+unfolding last
+last-no t n e = rw (add-one, e)
+
 pub last-le : (t : ℕ → Bool) (n : ℕ) → last t n ≤ n
 unfolding last
 last-le t zero = omega arith
@@ -47,6 +116,20 @@ last-taken t (suc n) i e = go (t n) refl e (last-taken t n i)
     go : (b : Bool) → t n ≡ b → cond b (suc n) (last t n) ≡ suc i → (last t n ≡ suc i → t i ≡ true) → t i ≡ true
     go true q e f = subst (λ (k : ℕ). t k ≡ true) (omega arith) q
     go false q e f = f e
+
+pub last-true : (t : ℕ → Bool) (n a : ℕ) → last t n ≡ suc a → (t a ≡ true) × (a < n)
+last-true t n a e = (last-taken t n a e, omega (arith, last-le t n))
+
+-- a number below n that the test takes
+abbrev pub Some : (ℕ → Bool) → ℕ → Type 0
+Some t n = (i : ℕ) × ((i < n) × (t i ≡ true))
+
+pub last-some : (t : ℕ → Bool) (n : ℕ) → 0 < last t n → Some t n
+last-some t n h = go (last t n) refl h
+  where
+    go : (k : ℕ) → last t n ≡ k → 0 < k → Some t n
+    go zero q h = absurd (omega arith)
+    go (suc i) q h = let z = last-true t n i q in (i, (z .1, z .0))
 
 pub last-same : (t u : ℕ → Bool) (n : ℕ) → ((i : ℕ) → i < n → t i ≡ u i) → last t n ≡ last u n
 unfolding last
@@ -72,6 +155,6 @@ last-up t (suc n) i l e = go (t n) refl (last-up t n i)
     go true q f = l
     go false q f =
         ⊎-elim
-        (λ z. absurd (let w : _≡_ {A = Bool} true false = sym e ∙ ap t z ∙ q in let u : _≡_ {A = ℕ} 0 1 = cc in omega arith))
+        (λ z. clash e (ap t z ∙ q))
         (λ z. f z e)
         (eq-or-lt-of-le (le-of-suc-le-suc l))

@@ -2,24 +2,21 @@
 use Prim.Native.Nat.{ℕ, zero, suc, _+_, _*_, _<_}
 use mathlib.Core.Bool.{Bool, true, false, cond}
 use mathlib.Core.List.{List, [], _∷_, _++_}
-use mathlib.Core.Path.{_≡_, refl, sym, _∙_, ap, fun-ext}
-use mathlib.Core.Logic.{⊎-elim}
-use native.Mathlib.Nat.{eq-or-lt-of-le, le-of-suc-le-suc, lt-of-lt-of-le, mul-le-mul-right, suc-mul}
+use mathlib.Core.Path.{_≡_, refl, _∙_, ap, fun-ext}
 use native.Mathlib.Omega.{arith}
-use lib.ListN.{length, getD, take, drop, set, length-append, List·getD-append, List·getD-eq-default}
-use lib.Seq.{take-at, drop-at, getD-append-add}
+use lib.ListN.{length, getD, take, drop, length-append, List·getD-eq-default}
+use lib.Seq.{take-at, drop-at}
 use lib.Dec.{eqb, ltb}
 use lib.Ieee.{Float, nan}
 use borrow.Author.Tests.{eqb-false, ltb-true, ltb-false}
 use Rattle.lists.specs.Put.{put, upto}
-use Rattle.lists.proofs.Puts.{next, length-upto}
+use Rattle.lists.proofs.Puts.{next, length-upto, put-all, upto-at}
 use Rattle.vectors.specs.declared.Vec3.{Vec3}
 use Rattle.vectors.specs.Vec.{vecAt}
 use Rattle.shape.specs.declared.Kind.{Kind}
 use Rattle.shape.specs.declared.Kind.the-variants.{Sheet}
 use Rattle.shape.specs.declared.Oxygen.the-variants.{At, Missing}
 use Rattle.curve.specs.Residues.{oxygenAt}
-use Rattle.curve.proofs.Laws.{put-all}
 use Rattle.skin.specs.Tube.{positionsOf, normalsOf, tagsOf}
 use Rattle.boxes.specs.Box.{boxOf}
 use Rattle.skin.specs.Post.{Wrote}
@@ -38,37 +35,9 @@ unfolding spotOf
 spot-some place zero h = absurd (h refl)
 spot-some place (suc a) h = refl
 
--- five stores in a row are one write
-pub put5 : {A : Type 0} (l : List A) (j : ℕ) (a b c d e : A)
-    → set (set (set (set (set l j a) (j + 1) b) (j + 2) c) (j + 3) d) (j + 4) e ≡ put l j (a ∷ b ∷ c ∷ d ∷ e ∷ [])
-unfolding put
-put5 l j a b c d e =
-    let p : j + 1 ≡ suc j = omega arith in
-    let q : j + 2 ≡ suc (suc j) = omega arith in
-    let r : j + 3 ≡ suc (suc (suc j)) = omega arith in
-    let s : j + 4 ≡ suc (suc (suc (suc j))) = omega arith in
-    rw (p, q, r, s)
-
 pub length-spots : (place : ℕ → Vec3) (atoms : List ℕ) → length (spots place atoms) ≡ 3 * length atoms
 unfolding spots
 length-spots place atoms = length-upto (spotAt place atoms) 3 (length atoms) (λ k h. refl) ∙ omega arith
-
--- piece i of pieces of one width
-pub upto-at : {A : Type 0} (f : ℕ → List A) (w n i j : ℕ) (d : A) → ((k : ℕ) → length (f k) ≡ w) → i < n → j < w
-    → getD (upto f n) (i * w + j) d ≡ getD (f i) j d
-unfolding upto
-upto-at f w zero i j d hw l m = absurd (omega arith)
-upto-at f w (suc n) i j d hw l m =
-    let z = length-upto f w n (λ k h. hw k) in
-    ⊎-elim
-    (λ q. rw q (ap (λ (k : ℕ). getD (upto f n ++ f n) (k + j) d) (sym z) ∙ getD-append-add (upto f n) (f n) j d))
-    (λ b.
-    let t : i * w + j < length (upto f n) = rw z (within i n w j b m) in
-    List·getD-append (upto f n) (f n) d (i * w + j) t ∙ upto-at f w n i j d hw b m)
-    (eq-or-lt-of-le (le-of-suc-le-suc l))
-  where
-    within : (i n w j : ℕ) → i < n → j < w → i * w + j < n * w
-    within i n w j b m = lt-of-lt-of-le (let e : suc i * w ≡ i * w + w = suc-mul i w in omega arith) (mul-le-mul-right w b)
 
 pub spots-at : (place : ℕ → Vec3) (atoms : List ℕ) (i : ℕ) → i < length atoms → vecAt (spots place atoms) i ≡ spotOf place (getD atoms i 0)
 unfolding spots vecAt

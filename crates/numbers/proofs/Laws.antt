@@ -2,15 +2,14 @@
 use Prim.Native.Nat.{ℕ, _+_, _/_, _%_, _<_}
 use mathlib.Core.Path.{_≡_, refl, sym, ap, _∙_, subst}
 use mathlib.Core.List.{List, [], _∷_, _++_}
-use mathlib.Core.Bool.{true, false, not, true≢false}
-use native.Mathlib.Numerals.{add-one}
+use mathlib.Core.Bool.{true}
 use native.Mathlib.Omega.{arith}
 use lib.Dec.{T}
-use lib.ListN.{length, set}
-use lib.Ieee.{Float, nan, inf, fin, binary32, toBits, ne, isNan}
+use lib.ListN.{length}
+use lib.Ieee.{Float, binary32, toBits, ne}
 use lib.Ieee.Compare.{differs-from-itself}
 use Rattle.lists.specs.Put.{put}
-use Rattle.lists.proofs.Puts.{next, put3, put-at}
+use Rattle.lists.proofs.Puts.{next}
 use Rattle.numbers.specs.Bytes.{u16, u32, u64}
 
 pub len16 : (n : ℕ) → length (u16 n) ≡ 2
@@ -29,29 +28,12 @@ len64 n = refl
 pub seq : (l b : List ℕ) (i j w : ℕ) (xs ys : List ℕ) {b′ : List ℕ} → length xs ≡ w → j ≡ i + w → b ≡ put l i xs → b′ ≡ put b j ys → b′ ≡ put l i (xs ++ ys)
 seq l b i j w xs ys q h e e′ = next l b i j xs ys e′ e (h ∙ ap (λ (n : ℕ). i + n) (sym q))
 
-pub two : (l : List ℕ) (j x y : ℕ) → set (set l j x) (j + 1) y ≡ put l j (x ∷ y ∷ [])
-unfolding put
-two l j x y = ap (λ (k : ℕ). set (set l j x) k y) (add-one j)
-
--- four stores in a row are one write
-pub put4 : (l : List ℕ) (j a b c d : ℕ)
-    → set (set (set (set l j a) (j + 1) b) (j + 2) c) (j + 3) d ≡ put l j (a ∷ b ∷ c ∷ d ∷ [])
-unfolding put
-put4 l j a b c d = ap (λ (m : List ℕ). set m (j + 3) d) (put3 l j a b c) ∙ put-at l j (j + 3) (a ∷ b ∷ c ∷ []) (d ∷ []) refl
-
 -- a word's four bytes, each from the word itself
 pub word-bytes : (w : ℕ) → w < 4294967296 → w / 16777216 ∷ w / 65536 % 256 ∷ w / 256 % 256 ∷ w % 256 ∷ [] ≡ u32 w
 unfolding u32 u16
 word-bytes w h = ap (λ (x : ℕ). x ∷ w / 65536 % 256 ∷ w / 256 % 256 ∷ w % 256 ∷ []) (omega arith)
 
--- a float that equals itself is a number
-pub same-no-nan : (x : Float) → ne x x ≡ false → T (not (isNan x))
-unfolding ne isNan
-same-no-nan nan e = absurd (true≢false e)
-same-no-nan (inf s) e = tt
-same-no-nan (fin s m d) e = tt
-
--- one that does not is THE NaN, and has its bits
+-- a float that does not equal itself is THE NaN, and has its bits
 pub nan-word : (x : Float) → ne x x ≡ true → 0x7fc0_0000 ≡ toBits binary32 x
 unfolding toBits
 nan-word x e = ap (toBits binary32) (sym (differs-from-itself x (subst T (sym e) tt)))

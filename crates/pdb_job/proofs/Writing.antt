@@ -1,6 +1,6 @@
 -- The job's records: what the tables give for a line, and the loop that writes one record after another. Assumes nothing.
 use Prim.Native.Nat.{ℕ, zero, suc, _+_, _-_, _*_, _<_, _≤_}
-use mathlib.Core.Bool.{Bool, true, false, _||_}
+use mathlib.Core.Bool.{Bool, true, false, _||_, or-true}
 use mathlib.Core.Path.{_≡_, refl, sym, ap, _∙_, subst}
 use mathlib.Core.List.{List, [], _∷_, _++_, map, append-nil, map-append}
 use native.Mathlib.Numerals.{add-one}
@@ -13,7 +13,7 @@ use Rattle.lists.proofs.Puts.{kept, length-put, put-at, put-apart}
 use Rattle.lists.specs.Search.{last}
 use Rattle.appearance.specs.Order.{member, place, numbered}
 use Rattle.appearance.specs.Index.{isKey, Keyed}
-use Rattle.appearance.proofs.Laws.{or-true, or-no, member-append}
+use Rattle.appearance.proofs.Laws.{member-append}
 use Rattle.lists.proofs.Searches.{last-taken}
 use Rattle.appearance.proofs.Numbers.{found-number, number-none, number-is, number-some}
 use Rattle.job_writer.specs.Job.{flat, segmentBytes, atomBytes}
@@ -34,6 +34,7 @@ use Rattle.pdb_survey.proofs.Atoms.{found-member}
 use Rattle.pdb_job.specs.Structure.{toAtom, toSegment, residueOrder, chainOrder, chainsOf}
 use Rattle.pdb_job.specs.Parts.{segmentsFrom, atomsFrom, Held}
 use Rattle.pdb_job.specs.declared.records.Places.{Places}
+use Rattle.lists.proofs.Bools.{or-no}
 
 -- ---- a residue that is not there has no first atom and no last
 nowhere : (f : Found) → isFound f ≡ false → f ≡ Nowhere

@@ -1,13 +1,14 @@
 -- Laws of lines. Assumes nothing.
-use Prim.Native.Nat.{ℕ, zero, suc, _+_, _-_, _<_, _≤_}
-use mathlib.Core.Bool.{Bool, true, false, _&&_, cond, and-false}
+use Prim.Native.Nat.{ℕ, suc, _+_, _-_, _<_, _≤_}
+use mathlib.Core.Bool.{Bool, true, false, _&&_, cond}
 use mathlib.Core.Path.{_≡_, refl, sym, ap, _∙_}
 use mathlib.Core.List.{List, [], _∷_, _++_}
 use native.Mathlib.Numerals.{add-one}
 use native.Mathlib.Omega.{arith}
 use lib.Dec.{eqb}
 use lib.ListN.{length, take, drop, getD, length-drop, length-take, drop-of-length-le}
-use Rattle.pdb_lines.specs.Columns.{same, named}
+use Rattle.lists.proofs.Sames.{same-length, same-all, same-one}
+use Rattle.pdb_lines.specs.Columns.{named}
 use lib.Seq.{getD-take, drop-cons, take-suc, getD-drop, drop-drop}
 use borrow.Author.Tests.{eq-eqb, ne-eqb}
 use Rattle.pdb_lines.specs.Lines.{lines, atLf, onto}
@@ -128,29 +129,6 @@ module _ (s : List ℕ) (i : ℕ) (h : i < length s) where
 pub start : (s : List ℕ) (at : ℕ) → lines (drop at s) ≡ ontos (take (at - at) (drop at s)) (lines (drop at s))
 unfolding ontos
 start s at = let e : at - at ≡ 0 = omega arith in rw e
-
-same-length : (xs ys : List ℕ) → (length xs ≡ length ys → ⊥) → same xs ys ≡ false
-unfolding same
-same-length [] [] h = absurd (h refl)
-same-length [] (y ∷ ys) h = refl
-same-length (x ∷ xs) [] h = refl
-same-length (x ∷ xs) (y ∷ ys) h = rw (same-length xs ys (λ e. h (ap suc e))) (and-false (eqb x y))
-
--- the first i bytes agree
-same-all : (xs ys : List ℕ) → length xs ≡ length ys → ((k : ℕ) → k < length ys → getD xs k 0 ≡ getD ys k 0) → same xs ys ≡ true
-unfolding same
-same-all [] [] e h = refl
-same-all [] (y ∷ ys) e h = absurd (omega arith)
-same-all (x ∷ xs) [] e h = absurd (omega arith)
-same-all (x ∷ xs) (y ∷ ys) e h =
-    rw (eq-eqb x y (h 0 (omega arith))) (same-all xs ys (omega arith) (λ k l. h (suc k) (omega arith)))
-
-same-one : (xs ys : List ℕ) (k : ℕ) → k < length ys → (getD xs k 0 ≡ getD ys k 0 → ⊥) → length xs ≡ length ys → same xs ys ≡ false
-unfolding same
-same-one xs [] k l h e = absurd (omega arith)
-same-one [] (y ∷ ys) k l h e = refl
-same-one (x ∷ xs) (y ∷ ys) zero l h e = rw (ne-eqb x y h)
-same-one (x ∷ xs) (y ∷ ys) (suc k) l h e = rw (same-one xs ys k (omega arith) h (omega arith)) (and-false (eqb x y))
 
 module _ (l name : List ℕ) (from : ℕ) where
   at-column : from + 1 - 1 ≡ from

@@ -1,9 +1,9 @@
 -- Columns of a line, counted from 1, and fixed names in them.
 use Prim.Native.Nat.{ℕ, _-_}
-use mathlib.Core.List.{List, [], _∷_}
-use mathlib.Core.Bool.{Bool, true, false, _&&_}
+use mathlib.Core.List.{List}
+use mathlib.Core.Bool.{Bool}
 use lib.ListN.{length, take, drop, getD}
-use lib.Dec.{eqb}
+use Rattle.lists.specs.Same.{sameList}
 
 -- the byte in column i
 abbrev pub column : ℕ → List ℕ → ℕ
@@ -13,13 +13,6 @@ column i l = getD l (i - 1) 0
 abbrev pub columns : ℕ → ℕ → List ℕ → List ℕ
 columns i j l = take (j - (i - 1)) (drop (i - 1) l)
 
--- two lists of bytes are the same
-unfoldable pub same : List ℕ → List ℕ → Bool
-same [] [] = true
-same [] (y ∷ ys) = false
-same (x ∷ xs) [] = false
-same (x ∷ xs) (y ∷ ys) = eqb x y && same xs ys
-
 -- the name stands at column i
 unfoldable pub named : List ℕ → ℕ → List ℕ → Bool
-named name i l = same (take (length name) (drop (i - 1) l)) name
+named name i l = sameList (take (length name) (drop (i - 1) l)) name

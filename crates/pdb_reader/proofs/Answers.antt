@@ -1,6 +1,6 @@
 -- The answers of the call, rung by rung. Assumes nothing.
 use Prim.Native.Nat.{ℕ, _<_, _≤_}
-use mathlib.Core.Bool.{Bool, true, false}
+use mathlib.Core.Bool.{true, false, or-true}
 use mathlib.Core.Path.{_≡_, refl, sym, ap, _∙_, subst}
 use mathlib.Core.List.{List, []}
 use native.Mathlib.Omega.{arith}
@@ -9,7 +9,6 @@ use lib.ListN.{length, replicate, length-replicate, getD-replicate}
 use borrow.Author.Tests.{lt-ltb, le-ltb, ltb-false}
 use Rattle.lists.specs.Search.{last}
 use Rattle.job.specs.declared.Refusal.the-variants.{PastLimits, NoJobRoom}
-use Rattle.appearance.proofs.Laws.{or-true, or-no}
 use Rattle.appearance.specs.Order.{member, distinct, numbered}
 use Rattle.appearance.proofs.Holding.{empty-index}
 use Rattle.pdb_records.specs.declared.AtomLine.{AtomLine}
@@ -26,9 +25,7 @@ use Rattle.pdb_faults.proofs.AtFault.{clean-is, all-ahead}
 use Rattle.pdb_reader.specs.Call.{pastLimits, byFault, readChecks, readAnswer, readBy, bufferAfter}
 use Rattle.pdb_reader.specs.declared.Read.{Read}
 use Rattle.pdb_reader.specs.declared.Read.the-variants.{Written, NoJob}
-
-pub clash : _≡_ {A = Bool} true false → ⊥
-clash e = let z : _≡_ {A = ℕ} 0 1 = cc in omega arith
+use Rattle.lists.proofs.Bools.{or-no}
 
 -- ---- 15: the limits
 pub limited : (x : Structure) → pastLimits x ≡ false → Limited x

@@ -16,7 +16,8 @@ use Rattle.numbers.specs.Bytes.{u16, u32, u64}
 use Rattle.job_writer.specs.Job.{flat, point, atomBytes, headBytes, jobBytes}
 use Rattle.pdb_fields.specs.Numbers.{run, decimal, whole, thousandths}
 use Rattle.pdb_lines.specs.Lines.{lines}
-use Rattle.pdb_lines.specs.Columns.{same, named}
+use Rattle.lists.specs.Same.{sameList}
+use Rattle.pdb_lines.specs.Columns.{named}
 use Rattle.pdb_lines.proofs.Same.{crlf, hasCr, crlf-lines, final, lines-join, lf-lines}
 use Rattle.pdb_records.specs.Names.{ATOM, CA}
 use Rattle.pdb_records.specs.Records.{lineKind, roleOf, atomOf, ofKind}
@@ -69,7 +70,7 @@ line-ends s h = same-records (crlf s) s (ap (reading false) (crlf-lines s h))
 passed-over : {A : Type 0} (f : ℕ → List Record → A) → ((n : ℕ) → f n (Skipped ∷ []) ≡ f n [])
     → ((n : ℕ) (r : Record) (rs rs′ : List Record) → f (n + 1) rs ≡ f (n + 1) rs′ → f n (r ∷ rs) ≡ f n (r ∷ rs′))
     → (n : ℕ) (seen : Bool) (ls : List (List ℕ)) → f n (reading seen (ls ++ ([] ∷ []))) ≡ f n (reading seen ls)
-unfolding reading lineKind ofKind named same
+unfolding reading lineKind ofKind named sameList
 passed-over f last on n seen [] = last n
 passed-over f last on n seen (l ∷ ls) = go (stops seen (lineKind l)) (on n (ofKind (lineKind l) l) _ _ (passed-over f last on (n + 1) (saw seen (lineKind l)) ls))
   where
@@ -202,5 +203,5 @@ oneJob role =
 -- " CA " gives a C-alpha and "CA  " an atom of role 0, in a job of 47 bytes: 47 places suffice and 46 do not
 pub one-atom : (pdbJob (oneAtom CA) ≡ oneJob 1) × (pdbJob (oneAtom (67 ∷ 65 ∷ 32 ∷ 32 ∷ [])) ≡ oneJob 0)
     × (readAnswer (oneAtom CA) 47 ≡ Written 47) × (readAnswer (oneAtom CA) 46 ≡ NoJob (NoJobRoom 47))
-unfolding readAnswer readChecks pastLimits structureJob jobBytes headBytes atomBytes point u64 u32 u16 flat lines reading lineKind ofKind atomOf roleOf named same whole thousandths run decimal bits coordinate round toBits atoms segments distinct member place faults
+unfolding readAnswer readChecks pastLimits structureJob jobBytes headBytes atomBytes point u64 u32 u16 flat lines reading lineKind ofKind atomOf roleOf named sameList whole thousandths run decimal bits coordinate round toBits atoms segments distinct member place faults
 one-atom = (refl, refl, refl, refl)

@@ -1,11 +1,11 @@
 -- What is true of every atom and segment that a file gives. Assumes nothing.
-use Prim.Native.Nat.{ℕ, zero, suc, _≤_}
+use Prim.Native.Nat.{ℕ, _≤_}
 use mathlib.Core.Bool.{Bool, true, false, cond}
 use mathlib.Core.Path.{_≡_, refl, subst}
 use mathlib.Core.List.{List, [], _∷_}
 use native.Mathlib.Omega.{arith}
 use lib.Dec.{ltb}
-use lib.ListN.{length, take, drop}
+use lib.ListN.{length, drop}
 use Rattle.job_writer.proofs.Fine.{Placed}
 use Rattle.coordinates.specs.Coordinate.{bits}
 use Rattle.pdb_lines.specs.Columns.{column, columns, named}
@@ -24,6 +24,7 @@ use Rattle.pdb_file.specs.Reading.{stops, saw, reading, records, atoms, atomsOf
 use Rattle.pdb_reader.proofs.Passes.{NotMinusZero, Proper, Every, Kinded}
 use Rattle.pdb_reader.proofs.Small.{thousandths-small}
 use Rattle.pdb_reader.proofs.Range.{within-bits-of, bits-small, never-minus-zero}
+use Rattle.lists.proofs.Any.{take-le}
 
 abbrev Sound : Record → Type 0
 Sound Skipped = Unit
@@ -31,11 +32,6 @@ Sound Short = Unit
 Sound BadNumber = Unit
 Sound (AnAtom a) = Proper a
 Sound (ASegment g) = g .kind ≤ 2
-
-take-le : (k : ℕ) (l : List ℕ) → length (take k l) ≤ k
-take-le zero l = omega arith
-take-le (suc k) [] = omega arith
-take-le (suc k) (x ∷ l) = omega (arith, take-le k l)
 
 placed : (l : List ℕ) (n : ℕ) → length l ≤ 8 → bitsOf (thousandths l) ≡ field.Right n → (Placed n) × (NotMinusZero n)
 placed l n long e = go (thousandths l) refl e

@@ -1,6 +1,6 @@
 -- A structure within the limits, whatever file it came from, gives a job that passes checks 1 to 8. Assumes nothing.
 use Prim.Native.Nat.{ℕ, zero, suc, _≤_}
-use mathlib.Core.Bool.{true, false}
+use mathlib.Core.Bool.{true, false, or-true}
 use mathlib.Core.Path.{_≡_, refl, sym, ap, _∙_, subst}
 use mathlib.Core.List.{List, [], _∷_, map}
 use native.Mathlib.Omega.{arith}
@@ -11,7 +11,6 @@ use Rattle.job.specs.Check.{check}
 use Rattle.protein.specs.declared.Head.{Head}
 use Rattle.job.specs.declared.Checked.the-variants.{Fine}
 use Rattle.appearance.specs.Order.{member}
-use Rattle.appearance.proofs.Laws.{or-true}
 use Rattle.appearance.proofs.Theorems.{below-count}
 use Rattle.job_writer.specs.declared.JobAtom.{JobAtom}
 use Rattle.job_writer.specs.declared.JobSegment.{JobSegment}

@@ -1,6 +1,6 @@
 -- A number with three decimal places in at most eight columns is below ten million thousandths. Assumes nothing.
 use Prim.Native.Nat.{ℕ, zero, suc, _+_, _-_, _*_, _^_, _<_, _≤_}
-use mathlib.Core.Bool.{Bool, true, false, _&&_, cond}
+use mathlib.Core.Bool.{Bool, true, false, cond}
 use mathlib.Core.Path.{_≡_, refl, sym, ap, _∙_, subst}
 use mathlib.Core.List.{List, [], _∷_}
 use native.Mathlib.Nat.{mul-assoc, pow-succ'}
@@ -11,10 +11,7 @@ use lib.Seq.{drop-drop}
 use borrow.Author.Tests.{eqb-true, leb-true}
 use Rattle.pdb_fields.specs.Numbers.{run, isBlank, isDigit, decimal, lead, fraction, thousandths}
 use Rattle.pdb_fields.specs.declared.Number.the-variants.{Bad, Good}
-
-and-both : (a b : Bool) → (a && b) ≡ true → (a ≡ true) × (b ≡ true)
-and-both true b e = (refl, e)
-and-both false b e = absurd (let z : _≡_ {A = ℕ} 0 1 = cc in omega arith)
+use Rattle.lists.proofs.Bools.{and-both}
 
 -- digits in front are no more than the list is long
 run-le : (t : ℕ → Bool) (l : List ℕ) → run t l ≤ length l

@@ -1,30 +1,24 @@
 -- A list of atoms with one atom more: its names, and the first and last atom of a residue. Assumes nothing.
 use Prim.Native.Nat.{ℕ}
 use mathlib.Core.Bool.{Bool, true, false, cond, _||_}
-use mathlib.Core.Path.{_≡_, refl, sym, ap, _∙_}
+use mathlib.Core.Path.{_≡_, refl, ap, _∙_}
 use mathlib.Core.List.{List, [], _∷_, _++_, map-append}
 use native.Mathlib.Omega.{arith}
 use lib.Dec.{eqb}
-use borrow.Author.Tests.{eqb-true, eqb-false, eq-eqb, ne-eqb}
+use borrow.Author.Tests.{eq-eqb, ne-eqb}
 use Rattle.appearance.specs.Order.{member}
 use Rattle.pdb_records.specs.declared.AtomLine.{AtomLine}
 use Rattle.pdb_file.specs.declared.Found.{Found}
 use Rattle.pdb_file.specs.declared.Found.the-variants.{Nowhere, Serial}
 use Rattle.pdb_file.specs.Reading.{names, letters}
 use Rattle.pdb_file.specs.Faults.{firstAtom, lastAtom, orFault, isFound}
+use Rattle.lists.proofs.Bools.{eqb-sym}
 
 pub names-more : (l : List AtomLine) (a : AtomLine) → names (l ++ (a ∷ [])) ≡ names l ++ (a .name ∷ [])
 names-more l a = map-append (λ (a : AtomLine). a .name) l (a ∷ [])
 
 pub letters-more : (l : List AtomLine) (a : AtomLine) → letters (l ++ (a ∷ [])) ≡ letters l ++ (a .chain ∷ [])
 letters-more l a = map-append (λ (a : AtomLine). a .chain) l (a ∷ [])
-
-eqb-sym : (a b : ℕ) → eqb a b ≡ eqb b a
-eqb-sym a b = go (eqb a b) refl
-  where
-    go : (t : Bool) → eqb a b ≡ t → t ≡ eqb b a
-    go true e = sym (eq-eqb b a (sym (eqb-true a b e)))
-    go false e = sym (ne-eqb b a (λ q. eqb-false a b e (sym q)))
 
 -- a residue is found exactly when its name is there
 pub found-member : (n : ℕ) (l : List AtomLine) → isFound (firstAtom n l) ≡ member n (names l)

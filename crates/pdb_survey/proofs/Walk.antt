@@ -24,9 +24,7 @@ use Rattle.pdb_survey.specs.Tables.{Residues, Marks, Whole, Noted, Surve
 use Rattle.pdb_survey.specs.declared.FileCounts.{FileCounts}
 use Rattle.pdb_survey.proofs.Atoms.{letters-more}
 use Rattle.pdb_survey.proofs.Tables.{atom-full}
-
-pub clash : (b : Bool) → b ≡ true → b ≡ false → ⊥
-clash b p q = let w : _≡_ {A = Bool} true false = sym p ∙ q in let z : _≡_ {A = ℕ} 0 1 = cc in omega arith
+use Rattle.lists.proofs.Bools.{clash}
 
 -- ---- the tables with what one line gives
 pub noted-whole : (keys links ends marks : List ℕ) (c : FileCounts) (l : List AtomLine) → c .more ≡ false → Whole keys links ends marks c l → Noted keys links ends marks c l
@@ -36,7 +34,7 @@ noted-whole keys links ends marks c l e W = record {
     among = λ i h. keyed-member keys (c .residues) (names l) (W .residues .keyed) i h;
     all = λ _. W .residues .keyed;
   };
-  past = λ q. absurd (clash (c .more) q e);
+  past = λ q. clash q e;
   whole = λ _. W;
 }
 
@@ -51,9 +49,9 @@ module _ (keys links ends marks : List ℕ) (c : FileCounts) (l : List AtomLine)
   -- there were more before, and there are still
   pub noted-over : (m : List AtomLine) → c .more ≡ true → Noted keys links ends marks c (l ++ m)
   noted-over m e = record {
-    known = record { index = N .known .index; among = among-more m; all = λ q. absurd (clash (c .more) e q) };
+    known = record { index = N .known .index; among = among-more m; all = λ q. clash e q };
     past = λ _. le-trans (N .past e) (rw (map-append (λ (a : AtomLine). a .name) l m) (order-grows (names l) (names m)));
-    whole = λ q. absurd (clash (c .more) e q);
+    whole = λ q. clash e q;
   }
 
   -- a line that gives no atom
@@ -65,9 +63,9 @@ module _ (keys links ends marks : List ℕ) (c : FileCounts) (l : List AtomLine)
     pub noted-full : c .more ≡ false → (p : ℕ) → p ≡ last (isKey keys (a .name)) (c .residues) → p ≤ 0 → c .residues ≡ 16384 → (marks′ : List ℕ)
         → Noted keys links ends marks′ (record { atoms = c .atoms; residues = c .residues; chains = c .chains; more = true }) (l ++ (a ∷ []))
     noted-full e p ep z f marks′ = record {
-      known = record { index = N .known .index; among = among-more (a ∷ []); all = λ q. absurd (clash true refl q) };
+      known = record { index = N .known .index; among = among-more (a ∷ []); all = λ q. clash refl q };
       past = λ _. atom-full keys links ends (c .residues) l a (N .whole e .residues) p ep z f;
-      whole = λ q. absurd (clash true refl q);
+      whole = λ q. clash refl q;
     }
 
     -- an atom whose residue and chain went in

@@ -1,6 +1,6 @@
 -- An index of the residues that segments name. Assumes nothing.
-use Prim.Native.Nat.{ℕ, zero, suc, _-_, _<_, _≤_}
-use mathlib.Core.Bool.{Bool, true, false, cond, _||_}
+use Prim.Native.Nat.{ℕ, suc, _-_, _<_, _≤_}
+use mathlib.Core.Bool.{Bool, true, false, cond, _||_, or-true}
 use mathlib.Core.Path.{_≡_, refl, sym, ap, _∙_, subst}
 use mathlib.Core.List.{List, [], _∷_, _++_, append-assoc, append-nil}
 use native.Mathlib.Omega.{arith}
@@ -12,7 +12,7 @@ use Rattle.lists.specs.Search.{last}
 use Rattle.appearance.specs.Order.{member}
 use Rattle.appearance.specs.Index.{Index, isKey}
 use Rattle.lists.proofs.Searches.{last-le, last-taken}
-use Rattle.appearance.proofs.Laws.{member-append, or-true}
+use Rattle.appearance.proofs.Laws.{member-append}
 use Rattle.pdb_records.specs.declared.AtomLine.{AtomLine}
 use Rattle.pdb_records.specs.declared.Record.{Record}
 use Rattle.pdb_file.specs.Reading.{rest, atoms, atomsIn, atomsOf, names}
@@ -21,12 +21,9 @@ use Rattle.pdb_file.specs.Steps.{Onward}
 use Rattle.pdb_survey.proofs.Atoms.{found-member, names-more}
 use Rattle.pdb_survey.specs.Tables.{Known}
 use Rattle.pdb_wanted.specs.Wanted.{Wanted}
+use Rattle.lists.proofs.Any.{zeros}
 
 -- ---- nothing is wanted, nothing is known
-zeros : (m i : ℕ) → getD (replicate {A = ℕ} m 0) i 0 ≡ 0
-zeros zero i = refl
-zeros (suc m) zero = refl
-zeros (suc m) (suc i) = zeros m i
 
 pub unknown : (keys links : List ℕ) (n : ℕ) → Index keys links n → Wanted keys links (replicate 16384 0) n []
 unfolding member

@@ -1,7 +1,7 @@
 -- A tube's part that is not empty lies in the buffer. Assumes nothing.
 use mathlib.Core.Path.{_≡_, refl, sym, ap, _∙_}
 use mathlib.Core.Bool.{Bool, true, false, cond, _&&_}
-use mathlib.Core.List.{List, [], _∷_}
+use mathlib.Core.List.{List, []}
 use Prim.Native.Nat.{ℕ, _+_, _*_, _/_, _≤_, _<_}
 use native.Mathlib.Omega.{arith}
 use lib.Dec.{ltb, leb}
@@ -12,14 +12,7 @@ use Rattle.edges.specs.Tube.{triangleCount}
 use Rattle.tube_call.specs.Part.{tubePart}
 use Rattle.ribbon_c.specs.Parts.{PartFor}
 use Rattle.lists.proofs.Bools.{and-left, and-right}
-
-clash : {P : Type 0} → true ≡ false → P
-clash e = let z : _≡_ {A = ℕ} 0 1 = cc in absurd (omega arith)
-
--- a list of no elements is empty
-no-elements : (l : List ℕ) → length l ≡ 0 → [] ≡ l
-no-elements [] e = refl
-no-elements (x ∷ l) e = absurd (omega (arith, e))
+use Rattle.lists.proofs.Any.{no-elements}
 
 -- the test of `tubePart` holds where the part is not empty
 tested : (t : Bool) (l : List ℕ) → (length (cond t l []) ≡ 0 → ⊥) → t ≡ true

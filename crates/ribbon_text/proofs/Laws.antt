@@ -1,15 +1,14 @@
 -- What the proofs of this crate share. Assumes nothing.
 use mathlib.Core.Path.{_≡_, refl, sym, ap, _∙_}
-use mathlib.Core.List.{List, [], _∷_, _++_, append-assoc, append-nil}
+use mathlib.Core.List.{List, _++_, append-assoc, append-nil}
 use mathlib.Core.Bool.{Bool, true, false, cond}
 use Prim.Native.Nat.{ℕ, zero, suc, _+_, _-_, _*_, _/_, _^_, _≤_, _<_}
 use native.Mathlib.Nat.{pow-suc, pow-le-pow-right}
 use native.Mathlib.Omega.{arith}
 use lib.Dec.{ltb}
-use lib.ListN.{length, take, getD, length-append}
-use lib.Seq.{take-suc, take-length, length-take-le}
+use lib.ListN.{length, getD, length-append}
+use lib.Seq.{length-take-le}
 use borrow.Author.Tests.{ltb-true, ltb-false}
-use Rattle.lists.specs.Put.{upto}
 use Rattle.job.specs.Refusals.{numberOf, carried, refusalNumbers}
 use Rattle.job.specs.declared.Refusal.{Refusal}
 use Rattle.job.specs.declared.Refusal.the-variants.{BadLength, BadVersion, BadCounts, BadSize, BadVisibility, BadKind, BadAtom, BadCoordinate, NoScratch, TooManyVertices, NoRoom, ShortLine, BadNumber, AbsentResidue, PastLimits, NoJobRoom}
@@ -17,16 +16,6 @@ use Rattle.io.specs.Counts.{Counts}
 use Rattle.io.specs.Digits.{digits, Fewest}
 use Rattle.lists.proofs.Puts.{next}
 use Rattle.ribbon_text.specs.Text.{width, decimal, field, blankName, listed, Wrote}
-
--- a list is its elements, one after the other
-upto-take : (s : List ℕ) (n : ℕ) → n ≤ length s → upto (λ (k : ℕ). getD s k 0 ∷ []) n ≡ take n s
-unfolding upto
-upto-take [] zero h = refl
-upto-take (x ∷ s) zero h = refl
-upto-take s (suc n) h = ap (λ (l : List ℕ). l ++ (getD s n 0 ∷ [])) (upto-take s n (omega arith)) ∙ sym (take-suc s n 0 (omega arith))
-
-pub upto-all : (s : List ℕ) → upto (λ (k : ℕ). getD s k 0 ∷ []) (length s) ≡ s
-upto-all s = upto-take s (length s) (omega arith) ∙ take-length s
 
 -- a power of ten is ten times the one before it, and no power is 0
 tens : (k : ℕ) → (10 ^ suc k ≡ 10 ^ k * 10) × (1 ≤ 10 ^ k)

@@ -1,5 +1,5 @@
 -- Worked cases of a tube's shape, each a test that antt computes. Assumes nothing.
-use mathlib.Core.Bool.{Bool, true, false, _&&_}
+use mathlib.Core.Bool.{Bool, true, _&&_}
 use mathlib.Core.List.{List, [], _∷_, _++_}
 use Prim.Native.Nat.{ℕ}
 use lib.Count.{trailingZeros}
@@ -20,13 +20,7 @@ use Rattle.curve.specs.Smooth.{guidePass, positionPass, repeated, smoothGuides,
 use Rattle.curve.specs.Residues.{tangentAt, rawAt, signedAt, signed, sumOf, same, settled, guidesOf, pointsOf}
 use Rattle.curve.specs.Samples.{sampleCount, spanOf, spanAt, paramAt, frameOf, frameAt, ringAt, tagAt}
 use Rattle.skin.specs.Tube.{ordered, eight, ringPositions, ringNormals, ringTags, startNormal, endNormal, skinPositions, skinNormals, positionsOf, normalsOf, tagsOf}
-
--- two lists of words are the same
-unfoldable pub alike : List ℕ → List ℕ → Bool
-alike [] [] = true
-alike [] (y ∷ ys) = false
-alike (x ∷ xs) [] = false
-alike (x ∷ xs) (y ∷ ys) = eqb x y && alike xs ys
+use Rattle.lists.specs.Same.{sameList}
 
 unfoldable pub words : List Float → List ℕ
 unfolding toBits
@@ -44,8 +38,8 @@ ringsAre n r = eqb (sampleCount n) r
 
 -- the tags of n residues from residue 0 on
 unfoldable pub tagsAre : ℕ → List ℕ → Bool
-unfolding alike tagsOf ordered ringTags tagAt spanAt paramAt upto greater isNan lt eq le toBits ofBits ofFields odd span climb size units round sum add sub neg mul div ofInt trailingZeros
-tagsAre n ts = alike (tagsOf 0 n) ts
+unfolding sameList tagsOf ordered ringTags tagAt spanAt paramAt upto greater isNan lt eq le toBits ofBits ofFields odd span climb size units round sum add sub neg mul div ofInt trailingZeros
+tagsAre n ts = sameList (tagsOf 0 n) ts
 
 -- two residues at (0,0,0) and (4,0,0), with no oxygen
 pub line : List Float

@@ -1,7 +1,7 @@
 -- Turns and sequences of the writers of vertices, over plain lists.
 use mathlib.Core.Path.{_≡_, refl, sym, ap, _∙_}
-use mathlib.Core.List.{List, [], _∷_, _++_, append-assoc, append-nil}
-use Prim.Native.Nat.{ℕ, zero, suc, _+_, _*_, _-_, _/_, _%_, _≤_, _<_}
+use mathlib.Core.List.{List, [], _∷_, _++_, append-assoc}
+use Prim.Native.Nat.{ℕ, suc, _+_, _*_, _-_, _/_, _%_, _≤_, _<_}
 use native.Mathlib.Omega.{arith}
 use native.Mathlib.Nat.{mul-assoc}
 use lib.Ieee.{Float}
@@ -11,7 +11,7 @@ use lib.Seq.{take-at, drop-at, length-take-le}
 use Rattle.vectors.specs.declared.Vec3.{Vec3}
 use Rattle.vectors.specs.Vec.{floats, vecAt}
 use Rattle.lists.specs.Put.{put, upto}
-use Rattle.lists.proofs.Puts.{next, turn, kept, length-upto}
+use Rattle.lists.proofs.Puts.{next, turn, kept, length-upto, upto-more}
 use Rattle.shape.specs.declared.Kind.{Kind}
 use Rattle.shape.specs.declared.Spoke.{Spoke}
 use Rattle.shape.specs.declared.Oxygen.{Oxygen}
@@ -20,11 +20,12 @@ use Rattle.shape.specs.Guide.{between}
 use Rattle.curve.specs.declared.Frame.{Frame}
 use Rattle.curve.specs.Samples.{spanOf, spanAt, paramAt, frameOf, frameAt}
 use Rattle.curve.specs.Residues.{oxygenAt, guidesOf, pointsOf}
-use Rattle.curve.proofs.Laws.{rest, length-guides-of, length-points-of}
+use Rattle.curve.proofs.Laws.{length-guides-of, length-points-of}
 use Rattle.edges.specs.Tube.{vertexCount}
 use Rattle.edges.proofs.Theorems.{vertex-count}
 use Rattle.skin.specs.Post.{VertexRoom, Wrote, Course, Residues}
 use Rattle.skin.specs.Tube.{ordered, eight, ringPositions, ringNormals, ringTags, skinPositions, skinNormals, positionsOf, normalsOf, tagsOf}
+use Rattle.lists.proofs.Any.{rest}
 
 -- the three buffers at once: one write after another
 pub wrote-next : {p₀ n₀ : List Float} {t₀ : List ℕ} {p n p′ n′ : List Float} {t t′ : List ℕ} (v w : ℕ) (x x′ y y′ : List Float) (z z′ : List ℕ)
@@ -50,20 +51,6 @@ wrote-turn {p₀} {n₀} {t₀} f g h m hf hg hh v w k b a e =
       norm = turn g (m * 3) hg n₀ (3 * v) (3 * w) k (b .norm) (a .norm) e3;
       tag = turn h m hh t₀ v w k (b .tag) (a .tag) e;
     }
-
--- as many lists as f gives, and then c more
-upto-more : {A : Type 0} (f g : ℕ → List A) (k c : ℕ) → ((j : ℕ) → g j ≡ f (k + j)) → upto f k ++ upto g c ≡ upto f (k + c)
-unfolding upto
-upto-more f g k zero e = append-nil (upto f k) ∙ ap (upto f) (sum k)
-  where
-    sum : (k : ℕ) → k ≡ k + zero
-    sum k = omega arith
-upto-more f g k (suc c) e =
-    sym (append-assoc (upto f k) (upto g c) (g c)) ∙ ap (λ (l : List _). l ++ g c) (upto-more f g k c e)
-    ∙ ap (λ (l : List _). upto f (k + c) ++ l) (e c) ∙ ap (upto f) (sum k c)
-  where
-    sum : (k c : ℕ) → suc (k + c) ≡ k + suc c
-    sum k c = omega arith
 
 -- a turn of a loop that writes c times m vertices to the three
 pub wrote-more : {p₀ n₀ : List Float} {t₀ : List ℕ} {p n p′ n′ : List Float} {t t′ : List ℕ} (f g f′ g′ : ℕ → List Float) (h h′ : ℕ → List ℕ) (m : ℕ)

@@ -21,7 +21,8 @@ use Rattle.curve.specs.Smooth.{guidePass, positionPass, repeated, smoothGuides,
 use Rattle.curve.specs.Residues.{tangentAt, rawAt, signedAt, signed, sumOf, same, settled, guidesOf, pointsOf}
 use Rattle.curve.specs.Samples.{spanOf, spanAt, paramAt, frameOf, frameAt, ringAt}
 use Rattle.skin.specs.Tube.{ordered, eight, ringPositions, ringNormals, startNormal, endNormal, skinPositions, skinNormals}
-use Rattle.skin.proofs.Cases.{alike, words}
+use Rattle.skin.proofs.Cases.{words}
+use Rattle.lists.specs.Same.{sameList}
 
 -- the C-alphas and the oxygens
 pub bent : List Float
@@ -35,12 +36,12 @@ pub data Case : Type 0 where
   caps : Kind → List ℕ → Case
 
 unfoldable pub holds : Case → Bool
-unfolding alike words bent oxygens skinPositions skinNormals ordered eight ringPositions ringNormals startNormal endNormal frameAt frameOf spanOf spanAt paramAt ringAt pointsOf guidesOf settled smoothGuides smoothPositions repeated guidePass positionPass signed signedAt rawAt tangentAt sumOf same fallbackPerp across upright computeGuide rawGuide orUp tangentOf directed agreeing weighted smoothGuide smoothPosition between bend twist catmullRom catmullRomTangent cosBits sinBits cosAt sinAt halfSizes inArrow arrow profileOf steep spokeAt spokesOf pointOn normalOn ringOver crossSection vecAt upto put vadd vsub vscale vcross vdot vlength normalised root nearestRoot floorRoot rootDigits greater absolute isNan lt eq le toBits ofBits ofFields odd span climb size units round sum add sub neg mul div ofInt trailingZeros
+unfolding sameList words bent oxygens skinPositions skinNormals ordered eight ringPositions ringNormals startNormal endNormal frameAt frameOf spanOf spanAt paramAt ringAt pointsOf guidesOf settled smoothGuides smoothPositions repeated guidePass positionPass signed signedAt rawAt tangentAt sumOf same fallbackPerp across upright computeGuide rawGuide orUp tangentOf directed agreeing weighted smoothGuide smoothPosition between bend twist catmullRom catmullRomTangent cosBits sinBits cosAt sinAt halfSizes inArrow arrow profileOf steep spokeAt spokesOf pointOn normalOn ringOver crossSection vecAt upto put vadd vsub vscale vcross vdot vlength normalised root nearestRoot floorRoot rootDigits greater absolute isNan lt eq le toBits ofBits ofFields odd span climb size units round sum add sub neg mul div ofInt trailingZeros
 holds (ring kind s p q) =
-    alike (words (ringPositions kind (pointsOf kind bent 3) (guidesOf kind bent oxygens 3) 3 s)) p
-    && alike (words (ringNormals kind (pointsOf kind bent 3) (guidesOf kind bent oxygens 3) 3 s)) q
+    sameList (words (ringPositions kind (pointsOf kind bent 3) (guidesOf kind bent oxygens 3) 3 s)) p
+    && sameList (words (ringNormals kind (pointsOf kind bent 3) (guidesOf kind bent oxygens 3) 3 s)) q
 holds (caps kind ws) =
-    alike (words (floats (startNormal (pointsOf kind bent 3) (guidesOf kind bent oxygens 3) 3) ++ floats (endNormal (pointsOf kind bent 3) 3))) ws
+    sameList (words (floats (startNormal (pointsOf kind bent 3) (guidesOf kind bent oxygens 3) 3) ++ floats (endNormal (pointsOf kind bent 3) 3))) ws
 
 unfoldable pub every : List Case → Bool
 unfolding holds

@@ -16,7 +16,7 @@ use Rattle.job.specs.Refusals.{numberOf, carried}
 use Rattle.tables.specs.Wants.{wants, gives, chainOf}
 use Rattle.stretch.specs.Stretch.{inside}
 use Rattle.protein.specs.Places.{coordinateAt, placeOf, far, farBy}
-use Rattle.edges.specs.Cases.{sameWords}
+use Rattle.lists.specs.Same.{sameList}
 use Rattle.tubes.specs.Pieces.{pieces, apart}
 use Rattle.tubes.specs.Frames.{chosen}
 use Rattle.tubes.specs.Tubes.{shown, coilAlpha, segmentAlpha, alphaOf, frames, counts, any, covered, gap, tubeOf, tubesOf, runTubes, segmentTubes, joined, loose, joins, extended, coilTubes, tubes}
@@ -45,20 +45,20 @@ roomFor v t k r = record {
 
 -- an answer as its number (0: a mesh, a plan) and what it carries (K, V, T)
 abbrev pub meshIs : Built → ℕ → List ℕ → Bool
-meshIs (Mesh c) n l = eqb n 0 && sameWords (c .tubes ∷ c .vertices ∷ c .triangles ∷ []) l
-meshIs (NoMesh r) n l = eqb n (numberOf r) && sameWords (carried r) l
+meshIs (Mesh c) n l = eqb n 0 && sameList (c .tubes ∷ c .vertices ∷ c .triangles ∷ []) l
+meshIs (NoMesh r) n l = eqb n (numberOf r) && sameList (carried r) l
 
 abbrev pub planIs : Planned → ℕ → List ℕ → List ℕ → Bool
 planIs (Plan c w) n l five =
-    eqb n 0 && (sameWords (c .tubes ∷ c .vertices ∷ c .triangles ∷ []) l && sameWords (w .kind ∷ w .first ∷ w .length ∷ w .vertex ∷ w .triangle ∷ []) five)
-planIs (NoPlan r) n l five = eqb n (numberOf r) && sameWords (carried r) l
+    eqb n 0 && (sameList (c .tubes ∷ c .vertices ∷ c .triangles ∷ []) l && sameList (w .kind ∷ w .first ∷ w .length ∷ w .vertex ∷ w .triangle ∷ []) five)
+planIs (NoPlan r) n l five = eqb n (numberOf r) && sameList (carried r) l
 
 -- build answers so to the bytes s
 unfoldable pub builds : List ℕ → Lent → ℕ → List ℕ → Bool
-unfolding sameWords buildAnswer buildChecks shortScratch tooMany tight jobTubes tubeList vertexSum triangleSum vertices triangles check sizes contents first last u16At u32At u64At within ofBits ofFields odd trailingZeros le lt eq stray badVisibility badKind badAtom badCoordinate tubes joined segmentTubes coilTubes runTubes tubesOf tubeOf extended joins loose covered counts frames segmentAlpha coilAlpha alphaOf gap shown any chosen chainOf gives wants inside pieces apart farBy far vlength vsub vdot placeOf coordinateAt add sub mul root narrowed round
+unfolding sameList buildAnswer buildChecks shortScratch tooMany tight jobTubes tubeList vertexSum triangleSum vertices triangles check sizes contents first last u16At u32At u64At within ofBits ofFields odd trailingZeros le lt eq stray badVisibility badKind badAtom badCoordinate tubes joined segmentTubes coilTubes runTubes tubesOf tubeOf extended joins loose covered counts frames segmentAlpha coilAlpha alphaOf gap shown any chosen chainOf gives wants inside pieces apart farBy far vlength vsub vdot placeOf coordinateAt add sub mul root narrowed round
 builds s l n carried = meshIs (buildAnswer s l) n carried
 
 -- plan answers so
 unfoldable pub plans : List ℕ → ℕ → ℕ → ℕ → List ℕ → List ℕ → Bool
-unfolding sameWords planAnswer planChecks wordsAt shortScratch tooMany jobTubes tubeList vertexSum triangleSum vertices triangles check sizes contents first last u16At u32At u64At within ofBits ofFields odd trailingZeros le lt eq stray badVisibility badKind badAtom badCoordinate tubes joined segmentTubes coilTubes runTubes tubesOf tubeOf extended joins loose covered counts frames segmentAlpha coilAlpha alphaOf gap shown any chosen chainOf gives wants inside pieces apart farBy far vlength vsub vdot placeOf coordinateAt add sub mul root narrowed round
+unfolding sameList planAnswer planChecks wordsAt shortScratch tooMany jobTubes tubeList vertexSum triangleSum vertices triangles check sizes contents first last u16At u32At u64At within ofBits ofFields odd trailingZeros le lt eq stray badVisibility badKind badAtom badCoordinate tubes joined segmentTubes coilTubes runTubes tubesOf tubeOf extended joins loose covered counts frames segmentAlpha coilAlpha alphaOf gap shown any chosen chainOf gives wants inside pieces apart farBy far vlength vsub vdot placeOf coordinateAt add sub mul root narrowed round
 plans s k r n carried five = planIs (planAnswer s k (8 * r) (32 * r)) n carried five

@@ -1,6 +1,6 @@
 -- What the proofs of this crate share. Assumes nothing.
 use mathlib.Core.Path.{_≡_}
-use mathlib.Core.Bool.{Bool, true, false, not}
+use mathlib.Core.Bool.{true, false, not}
 use Prim.Native.Nat.{ℕ, _+_, _/_, _%_}
 use native.Mathlib.Omega.{arith}
 use lib.Dec.{T}
@@ -16,7 +16,3 @@ pattern-no-nan i =
 -- a test that answers false, of a fact that does not hold
 pub not-so : {P : Type 0} → (P → ⊥) → (false ≡ true → P) × (P → false ≡ true)
 not-so h = (λ e. let z : _≡_ {A = ℕ} 0 1 = cc in absurd (omega arith), λ p. absurd (h p))
-
--- true and false are not one
-pub clash : {P : Type 0} {b : Bool} → b ≡ true → b ≡ false → P
-clash p q = let z : _≡_ {A = ℕ} 0 1 = cc in absurd (omega arith)

@@ -1,6 +1,6 @@
 -- What an accepted job is, index by index. Assumes nothing.
 use Prim.Native.Nat.{ℕ, zero, suc, _<_, _≤_}
-use mathlib.Core.Bool.{Bool, true, false}
+use mathlib.Core.Bool.{false}
 use mathlib.Core.List.{List}
 use mathlib.Core.Path.{_≡_, refl, subst}
 use native.Mathlib.Omega.{arith}
@@ -14,7 +14,7 @@ use Rattle.job.specs.declared.Refusal.{Refusal}
 use Rattle.job.specs.declared.Refusal.the-variants.{BadVisibility, BadKind, BadAtom, BadCoordinate}
 use Rattle.job.specs.declared.Checked.{Checked}
 use Rattle.job.specs.declared.Checked.the-variants.{Fine, Refused}
-use Rattle.tube_theorems.proofs.Ends.{some-first}
+use Rattle.lists.proofs.Searches.{first-false}
 
 -- no chain, segment or atom is at fault
 pub record Accepted (s : List ℕ) (h : Head) : Type 0 where
@@ -22,13 +22,6 @@ pub record Accepted (s : List ℕ) (h : Head) : Type 0 where
   pub kinds : (i : ℕ) → i < h .segments → badKind s h i ≡ false
   pub atoms : (i : ℕ) → i < h .atoms → badAtom s h i ≡ false
   pub coordinates : (i : ℕ) → i < h .atoms → badCoordinate s h i ≡ false
-
-first-false : (t : ℕ → Bool) (n : ℕ) → first t n ≡ 0 → (i : ℕ) → i < n → t i ≡ false
-first-false t n e i l = go (t i) refl
-  where
-    go : (b : Bool) → t i ≡ b → t i ≡ false
-    go true q = absurd (omega (arith, some-first t n i l q))
-    go false q = q
 
 fine : (v : ℕ) (f : ℕ → Refusal) (rest : Checked) (h : Head) → orFirst v f rest ≡ Fine h → (v ≡ 0) × (rest ≡ Fine h)
 fine zero f rest h e = (refl, e)

@@ -1,6 +1,6 @@
 -- What is covered: by a segment of two frames or more, hidden or not, and only where there is a C-alpha. Assumes nothing.
 use Prim.Native.Nat.{ℕ, zero, suc, _<_, _≤_}
-use mathlib.Core.Bool.{Bool, true, false, cond, _||_}
+use mathlib.Core.Bool.{Bool, true, false, _||_}
 use mathlib.Core.Path.{_≡_, refl}
 use mathlib.Core.Logic.{⊎-elim}
 use native.Mathlib.Nat.{le-of-suc-le-suc, eq-or-lt-of-le}
@@ -8,7 +8,6 @@ use native.Mathlib.Omega.{arith}
 use lib.ListN.{length}
 use lib.Dec.{eqb}
 use borrow.Author.Tests.{ltb-false, le-ltb, ne-eqb, not-true}
-use Rattle.lists.specs.Search.{orElse, first, last}
 use Rattle.tables.specs.Wants.{gives, wants}
 use Rattle.protein.specs.Job.{Job}
 use Rattle.stretch.specs.declared.Range.{Range}
@@ -16,13 +15,7 @@ use Rattle.tables.specs.declared.Want.the-variants.{Alpha, SegmentAlpha}
 use Rattle.tubes.specs.Tubes.{range, coilAlpha, segmentAlpha, frames, counts, any, covered}
 use Rattle.tubes.proofs.Laws.{given-above}
 use Rattle.lists.proofs.Bools.{and-left, and-right}
-
--- a number below n that the test takes
-abbrev pub Some : (ℕ → Bool) → ℕ → Type 0
-Some t n = (i : ℕ) × ((i < n) × (t i ≡ true))
-
-wider : (t : ℕ → Bool) (n : ℕ) → Some t n → Some t (suc n)
-wider t n s = (s .0, (omega (arith, s .1 .0), s .1 .1))
+use Rattle.lists.proofs.Searches.{Some, last-some, some-first}
 
 pub any-some : (t : ℕ → Bool) (n : ℕ) → any t n ≡ true → Some t n
 unfolding any
@@ -30,7 +23,7 @@ any-some t zero e = let z : _≡_ {A = ℕ} 0 1 = cc in absurd (omega arith)
 any-some t (suc n) e = go (any-some t n) (any t n) refl e
   where
     go : (any t n ≡ true → Some t n) → (b : Bool) → any t n ≡ b → (b || t n) ≡ true → Some t (suc n)
-    go all true q h = wider t n (all q)
+    go all true q h = let s = all q in (s .0, (omega (arith, s .1 .0), s .1 .1))
     go all false q h = (n, (omega arith, h))
 
 pub some-any : (t : ℕ → Bool) (n i : ℕ) → i < n → t i ≡ true → any t n ≡ true
@@ -41,28 +34,6 @@ some-any t (suc n) i l e = ⊎-elim (λ q. rw (← q, e) (or-true (any t i))) (�
     or-true : (b : Bool) → (b || true) ≡ true
     or-true true = refl
     or-true false = refl
-
-last-some : (t : ℕ → Bool) (n : ℕ) → 0 < last t n → Some t n
-unfolding last
-last-some t zero h = absurd (omega arith)
-last-some t (suc n) h = go (last-some t n) (t n) refl h
-  where
-    go : (0 < last t n → Some t n) → (b : Bool) → t n ≡ b → 0 < cond b (suc n) (last t n) → Some t (suc n)
-    go all true q h = (n, (omega arith, q))
-    go all false q h = wider t n (all h)
-
-pub some-first : (t : ℕ → Bool) (n i : ℕ) → i < n → t i ≡ true → 0 < first t n
-unfolding first
-some-first t zero i l e = absurd (omega arith)
-some-first t (suc n) i l e = ⊎-elim (λ q. rw (← q, e) (at (first t i))) (λ m. earlier (first t n) (some-first t n i m e)) (eq-or-lt-of-le (le-of-suc-le-suc l))
-  where
-    at : (a : ℕ) → 0 < orElse a (suc i)
-    at zero = omega arith
-    at (suc a) = omega arith
-
-    earlier : (a : ℕ) → 0 < a → 0 < orElse a (cond (t n) (suc n) zero)
-    earlier zero h = absurd (omega arith)
-    earlier (suc a) h = h
 
 -- a segment's C-alpha is a C-alpha
 alpha-of : (J : Job) (g : Range) (r a : ℕ) → gives J (SegmentAlpha g) r a ≡ true → gives J Alpha r a ≡ true

@@ -19,7 +19,7 @@ use Rattle.job.specs.declared.Checked.the-variants.{Fine, Refused}
 use Rattle.tables.specs.Wants.{wants, gives, chainOf}
 use Rattle.stretch.specs.Stretch.{inside}
 use Rattle.protein.specs.Places.{coordinateAt, placeOf, far, farBy}
-use Rattle.edges.specs.Cases.{sameWords}
+use Rattle.lists.specs.Same.{sameList}
 use Rattle.tubes.specs.Pieces.{pieces, apart}
 use Rattle.tubes.specs.Frames.{chosen}
 use Rattle.tubes.specs.Tubes.{Tube, shown, coilAlpha, segmentAlpha, alphaOf, frames, counts, any, covered, gap, tubeOf, tubesOf, runTubes, segmentTubes, joined, loose, joins, extended, coilTubes, tubes}
@@ -83,10 +83,10 @@ sourceNumber (Segment i) = suc i
 
 -- the same tubes in the same order
 unfoldable pub sameTubes : List Tube → List Tube → Bool
-unfolding sameWords sourceNumber
+unfolding sameList sourceNumber
 sameTubes [] [] = true
 sameTubes (u ∷ us) (v ∷ vs) =
-    eqb (sourceNumber (u .source)) (sourceNumber (v .source)) && (eqb (u .kind) (v .kind) && (sameWords (u .residues) (v .residues) && sameTubes us vs))
+    eqb (sourceNumber (u .source)) (sourceNumber (v .source)) && (eqb (u .kind) (v .kind) && (sameList (u .residues) (v .residues) && sameTubes us vs))
 sameTubes [] (v ∷ vs) = false
 sameTubes (u ∷ us) [] = false
 
@@ -97,7 +97,7 @@ ifFine (Refused r) t = false
 
 abbrev refusedAs : Checked → ℕ → List ℕ → Bool
 refusedAs (Fine h) n l = false
-refusedAs (Refused r) n l = eqb (numberOf r) n && sameWords (carried r) l
+refusedAs (Refused r) n l = eqb (numberOf r) n && sameList (carried r) l
 
 -- 'helix (2,3), coils (0,1,2), (3,4,5)': the bytes pass the checks, and these are the tubes
 unfoldable pub givesTubes : List ℕ → List Tube → Bool
@@ -121,5 +121,5 @@ unfolding check sizes contents first badVisibility badKind badAtom badCoordinate
 passes s = ifFine (check s) (λ h. true)
 
 unfoldable pub refused : List ℕ → ℕ → List ℕ → Bool
-unfolding sameWords check sizes contents first badVisibility badKind badAtom badCoordinate stray within u16At u32At u64At lt eq le ofBits ofFields odd trailingZeros
+unfolding sameList check sizes contents first badVisibility badKind badAtom badCoordinate stray within u16At u32At u64At lt eq le ofBits ofFields odd trailingZeros
 refused s n l = refusedAs (check s) n l

@@ -5,9 +5,6 @@ use borrow.Author.Needs.{needs}
 use Rattle.job.proofs.check_job.Statement.{statement}
 use Rattle.job.proofs.check_job.Tie as tie
 
-check-contents-requires : tie.Need-check-contents-requires
-check-contents-requires c κs = sizes-whole _ _ (sym (c .before .before .before .check-sizes .ensures) ∙ c .before .s2 .given .1)
-
 returns : tie.Need-returns
 unfolding check
 returns c = simp (sym (c .before .before .before .check-sizes .ensures) ∙ c .before .s .given .1)
@@ -23,6 +20,6 @@ check-job-spec =
     (λ c κs. search needs)
     (λ c. search needs)
     (λ c. search needs)
-    check-contents-requires
+    (λ c κs. sizes-whole _ _ (sym (c .before .before .before .check-sizes .ensures) ∙ c .before .s2 .given .1))
     returns
     returns-2)

@@ -21,9 +21,6 @@ returns c = sym (first-at _ _ _ (search needs) (c .before .before .before .loop 
 loop-again : tie.Need-loop-again Inv-loop μ-loop
 loop-again c = (search needs, below-more _ _ (c .before .before .before .loop .inv .1) (sym (c .before .is-bad-atom .ensures) ∙ c .if1 .left))
 
-returns-2 : tie.Need-returns-2 Inv-loop μ-loop
-returns-2 c = sym (first-none _ _ (λ k l. c .before .loop .inv .1 k (omega arith)))
-
 pub find-atom-spec : {M : Type 1} → statement M
 find-atom-spec =
     tie.close
@@ -38,4 +35,4 @@ find-atom-spec =
     (λ c. search needs)
     (λ c. search needs)
     loop-again
-    returns-2)
+    (λ c. sym (first-none _ _ (λ k l. c .before .loop .inv .1 k (omega arith)))))

@@ -26,9 +26,6 @@ loop-again : tie.Need-loop-again Inv-loop μ-loop
 unfolding badKind
 loop-again c = (search needs, below-more _ _ (c .before .before .before .before .loop .inv .1) (ap (λ (k : ℕ). ltb 2 (getD (c .before .before .before .before .before .before .before .args .b .now) k 0)) (sym (c .before .before .segment-at .ensures)) ∙ le-ltb _ _ (c .if1 .left)))
 
-returns-2 : tie.Need-returns-2 Inv-loop μ-loop
-returns-2 c = sym (first-none _ _ (λ k l. c .before .loop .inv .1 k (omega arith)))
-
 pub find-kind-spec : {M : Type 1} → statement M
 find-kind-spec =
     tie.close
@@ -44,4 +41,4 @@ find-kind-spec =
     (λ c. search needs)
     (λ c. search needs)
     loop-again
-    returns-2)
+    (λ c. sym (first-none _ _ (λ k l. c .before .loop .inv .1 k (omega arith)))))

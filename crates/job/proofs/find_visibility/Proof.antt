@@ -22,9 +22,6 @@ returns : tie.Need-returns Inv-loop μ-loop
 unfolding badVisibility
 returns c = sym (first-at _ _ _ (search needs) (c .before .before .before .loop .inv .1) (lt-ltb _ _ (c .if1 .taken)))
 
-loop-again : tie.Need-loop-again Inv-loop μ-loop
-loop-again c = (search needs, below-more _ _ (c .before .before .before .loop .inv .1) (le-ltb _ _ (c .if1 .left)))
-
 returns-2 : tie.Need-returns-2 Inv-loop μ-loop
 unfolding badVisibility
 returns-2 c = sym (first-none _ _ (λ k l. c .before .loop .inv .1 k (omega arith)))
@@ -43,5 +40,5 @@ find-visibility-spec =
     returns
     (λ c. search needs)
     (λ c. search needs)
-    loop-again
+    (λ c. (search needs, below-more _ _ (c .before .before .before .loop .inv .1) (le-ltb _ _ (c .if1 .left))))
     returns-2)

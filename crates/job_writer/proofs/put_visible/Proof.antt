@@ -4,8 +4,7 @@ use mathlib.Core.List.{[], _∷_}
 use native.Mathlib.Omega.{arith}
 use borrow.Author.Needs.{needs}
 use Rattle.lists.specs.Put.{put, upto}
-use Rattle.lists.proofs.Puts.{set-turn, kept}
-use Rattle.job_writer.proofs.Laws.{upto-replicate}
+use Rattle.lists.proofs.Puts.{set-turn, kept, upto-replicate}
 use Rattle.job_writer.proofs.put_visible.Statement.{statement}
 use Rattle.job_writer.proofs.put_visible.Tie as tie
 

@@ -20,9 +20,6 @@ loop-holds : tie.Need-loop-holds Inv-loop μ-loop
 unfolding put upto
 loop-holds c = (omega arith, refl)
 
-cast-spot : tie.Need-cast-spot Inv-loop μ-loop
-cast-spot c = omega (arith, c .shared-slice-known3 .given (c .before .before .before .loop .i))
-
 spot-requires : tie.Need-spot-requires Inv-loop μ-loop
 spot-requires c κs = (c .before .before .before .before .before .before .before .pre .0, c .before .before .before .before .before .before .before .pre .1 (c .before .before .before .loop .i) (omega arith))
 
@@ -50,7 +47,7 @@ load-spec =
     (λ c. search needs)
     (λ c. search needs)
     (λ c. search needs)
-    cast-spot
+    (λ c. omega (arith, c .shared-slice-known3 .given (c .before .before .before .loop .i)))
     spot-requires
     put-vec-requires
     (λ c. search needs)

@@ -1,7 +1,7 @@
 use native.Mathlib.Omega.{arith}
 use lib.ListN.{length-set}
-use Rattle.mesh.proofs.Laws.{put5}
 use borrow.Author.Needs.{needs}
+use Rattle.lists.proofs.Puts.{put5}
 use Rattle.mesh.proofs.put_five.Statement.{statement}
 use Rattle.mesh.proofs.put_five.Tie as tie
 

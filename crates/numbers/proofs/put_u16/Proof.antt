@@ -1,14 +1,14 @@
 use native.Mathlib.Omega.{arith}
 use lib.ListN.{length-set}
 use Rattle.numbers.specs.Bytes.{u16}
-use Rattle.numbers.proofs.Laws.{two}
 use borrow.Author.Needs.{needs}
+use Rattle.lists.proofs.Puts.{put2}
 use Rattle.numbers.proofs.put_u16.Statement.{statement}
 use Rattle.numbers.proofs.put_u16.Tie as tie
 
 returns : tie.Need-returns
 unfolding u16
-returns c = two _ _ _ _
+returns c = put2 _ _ _ _
 
 pub put-u16-spec : {M : Type 1} → statement M
 put-u16-spec =

@@ -9,9 +9,6 @@ returns c = simp (c .before .before .before .before .before .r .given .1, sym (c
 returns-6 : tie.Need-returns-6
 returns-6 c = simp (c .before .before .before .before .before .r .given .1, sym (c .before .before .before .is-present .ensures) ∙ c .before .before .if1 .taken, sym (c .before .is-present2 .ensures) ∙ c .if2 .left)
 
-returns-7 : tie.Need-returns-7
-returns-7 c = simp (c .before .before .before .r .given .1, sym (c .before .is-present .ensures) ∙ c .if1 .left)
-
 pub fault-of-spec : {M : Type 1} → statement M
 fault-of-spec =
     tie.close
@@ -29,4 +26,4 @@ fault-of-spec =
     (λ c. simp (c .enum-told3 .given .1))
     (λ c. simp (c .enum-told4 .given .1))
     returns-6
-    returns-7)
+    (λ c. simp (c .before .before .before .r .given .1, sym (c .before .is-present .ensures) ∙ c .if1 .left)))

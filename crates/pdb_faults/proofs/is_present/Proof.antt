@@ -5,9 +5,6 @@ use borrow.Author.Needs.{needs}
 use Rattle.pdb_faults.proofs.is_present.Statement.{statement}
 use Rattle.pdb_faults.proofs.is_present.Tie as tie
 
-element-copy-out-result : tie.Need-element-copy-out-result
-element-copy-out-result c = omega (arith, c .before .find .ensures .1, c .before .before .before .pre .0 .index .few)
-
 returns : tie.Need-returns
 returns c = bit-tells _ _ _ _ _ (c .before .before .before .before .pre .0) _ _ (c .before .before .find .ensures .0) (c .before .if1 .taken)
 
@@ -20,7 +17,7 @@ is-present-spec =
     (tie.spec
     (λ c κs. search needs)
     (λ c. search needs)
-    element-copy-out-result
+    (λ c. omega (arith, c .before .find .ensures .1, c .before .before .before .pre .0 .index .few))
     returns
     (λ c κs. search needs)
     (λ c. search needs)

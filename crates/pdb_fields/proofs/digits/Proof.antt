@@ -21,9 +21,6 @@ mul-value c =
     let k : loop .k ≤ 8 = omega arith in
     omega (arith, small (loop .value) (loop .k) (loop .inv .4) k)
 
-sub-value : tie.Need-sub-value Inv-loop μ-loop
-sub-value c = digit-from _ (sym (c .before .is-digit .ensures) ∙ c .if1 .taken)
-
 cast-value : tie.Need-cast-value Inv-loop μ-loop
 cast-value c =
     let d = sym (c .before .is-digit .ensures) ∙ c .if1 .taken in
@@ -66,7 +63,7 @@ digits-spec =
     (λ c. search needs)
     (λ c κs. search needs)
     mul-value
-    sub-value
+    (λ c. digit-from _ (sym (c .before .is-digit .ensures) ∙ c .if1 .taken))
     cast-value
     add-value
     (λ c. search needs)

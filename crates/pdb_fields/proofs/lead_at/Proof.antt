@@ -4,11 +4,11 @@ use borrow.Author.Needs.{needs}
 use Rattle.pdb_fields.proofs.lead_at.Statement.{statement}
 use Rattle.pdb_fields.proofs.lead_at.Tie as tie
 
-returns : tie.Need-returns
-returns c = (lead-yes _ _ _ (c .before .before .if1 .taken) (c .if2 .taken), omega arith)
-
-returns-2 : tie.Need-returns-2
-returns-2 c = (lead-no _ _ _ (c .before .before .if1 .taken) (c .if2 .left), omega arith)
-
 pub lead-at-spec : {M : Type 1} → statement M
-lead-at-spec = tie.close (tie.spec (λ c. search needs) returns returns-2 (λ c. (lead-over _ _ _ (c .if1 .left), omega arith)))
+lead-at-spec =
+    tie.close
+    (tie.spec
+    (λ c. search needs)
+    (λ c. (lead-yes _ _ _ (c .before .before .if1 .taken) (c .if2 .taken), omega arith))
+    (λ c. (lead-no _ _ _ (c .before .before .if1 .taken) (c .if2 .left), omega arith))
+    (λ c. (lead-over _ _ _ (c .if1 .left), omega arith)))

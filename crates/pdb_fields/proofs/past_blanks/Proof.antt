@@ -21,9 +21,6 @@ returns c = (stop-no isBlank _ _ _ (c .before .before .before .loop .inv .2) (c 
 loop-again : tie.Need-loop-again Inv-loop μ-loop
 loop-again c = (omega arith, omega arith, run-turn isBlank _ _ _ (c .before .before .before .loop .inv .2) (c .before .before .loop-test .taken) (eq-eqb _ _ (c .if1 .left)))
 
-returns-2 : tie.Need-returns-2 Inv-loop μ-loop
-returns-2 c = (stop-over isBlank _ _ _ (c .before .loop .inv .2) (c .loop-test .left), omega arith)
-
 pub past-blanks-spec : {M : Type 1} → statement M
 past-blanks-spec =
     tie.close
@@ -36,4 +33,4 @@ past-blanks-spec =
     (λ c. search needs)
     (λ c. search needs)
     loop-again
-    returns-2)
+    (λ c. (stop-over isBlank _ _ _ (c .before .loop .inv .2) (c .loop-test .left), omega arith)))

@@ -13,9 +13,6 @@ returns c = no-digit _ _ _ _ _ (c .before .before .before .past-blanks .ensures 
 returns-2 : tie.Need-returns-2
 returns-2 c = no-point _ _ _ _ _ (c .before .before .before .before .before .past-blanks .ensures .0) (c .before .before .before .before .lead-at .ensures .0) (c .before .before .before .digits .ensures .0) (c .before .before .if1 .left) (λ z. c .if2 .taken (c .before .lead-at2 .ensures .0 ∙ z))
 
-digits-requires-2 : tie.Need-digits-requires-2
-digits-requires-2 c κs = (omega arith, omega arith, ten-more _ _ (c .before .before .before .digits .ensures .1))
-
 returns-3 : tie.Need-returns-3
 returns-3 c = not-three _ _ _ _ _ (c .before .before .before .before .before .before .before .past-blanks .ensures .0) (c .before .before .before .before .before .before .lead-at .ensures .0) (c .before .before .before .before .before .digits .ensures .0) (c .before .before .before .before .if1 .left) (sym (c .before .before .before .lead-at2 .ensures .0) ∙ c .before .before .if2 .left) _ _ (c .before .digits2 .ensures .0) (c .if3 .taken)
 
@@ -38,7 +35,7 @@ thousandths-in-spec =
     (λ c κs. search needs)
     returns-2
     (λ c. search needs)
-    digits-requires-2
+    (λ c κs. (omega arith, omega arith, ten-more _ _ (c .before .before .before .digits .ensures .1)))
     (λ c. search needs)
     returns-3
     (λ c κs. search needs)

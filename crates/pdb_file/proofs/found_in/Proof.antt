@@ -3,23 +3,17 @@ use borrow.Author.Needs.{needs}
 use Rattle.pdb_file.proofs.found_in.Statement.{statement}
 use Rattle.pdb_file.proofs.found_in.Tie as tie
 
-returns : tie.Need-returns
-returns c = simp (c .before .before .before .r .given .1, eq-eqb _ _ (c .if1 .taken))
-
-returns-2 : tie.Need-returns-2
-returns-2 c = simp (c .before .before .before .r .given .1, ne-eqb _ _ (c .if1 .left))
-
 pub found-in-spec : {M : Type 1} → statement M
 found-in-spec =
     tie.close
     (tie.spec
     (λ c. search needs)
-    returns
+    (λ c. simp (c .before .before .before .r .given .1, eq-eqb _ _ (c .if1 .taken)))
     (λ c. search needs)
     (λ c. search needs)
     (λ c. search needs)
     (λ c. search needs)
-    returns-2
+    (λ c. simp (c .before .before .before .r .given .1, ne-eqb _ _ (c .if1 .left)))
     (λ c. search needs)
     (λ c. search needs)
     (λ c. search needs)

@@ -6,11 +6,12 @@ use Rattle.pdb_file.proofs.is_present.Tie as tie
 enum-told : tie.Need-enum-told
 enum-told c = search needs
 
-returns : tie.Need-returns
-returns c = simp (sym (c .before .before .first-atom .ensures) ∙ c .enum-told .given .1)
-
-returns-2 : tie.Need-returns-2
-returns-2 c = simp (sym (c .before .before .first-atom .ensures) ∙ c .enum-told2 .given .1)
-
 pub is-present-spec : {M : Type 1} → statement M
-is-present-spec = tie.close (tie.spec (λ c κs. search needs) enum-told (λ c. search needs) returns returns-2)
+is-present-spec =
+    tie.close
+    (tie.spec
+    (λ c κs. search needs)
+    enum-told
+    (λ c. search needs)
+    (λ c. simp (sym (c .before .before .first-atom .ensures) ∙ c .enum-told .given .1))
+    (λ c. simp (sym (c .before .before .first-atom .ensures) ∙ c .enum-told2 .given .1)))

@@ -4,9 +4,6 @@ use borrow.Author.Needs.{needs}
 use Rattle.pdb_lines.proofs.ending_at.Statement.{statement}
 use Rattle.pdb_lines.proofs.ending_at.Tie as tie
 
-returns : tie.Need-returns
-returns c = (ending-lf _ _ (c .before .before .pre) (c .if1 .taken), omega arith)
-
 returns-2 : tie.Need-returns-2
 returns-2 c = (ending-not _ _ (c .before .before .before .pre) (c .before .if1 .left) (c .if2 .taken), omega arith)
 
@@ -24,7 +21,7 @@ ending-at-spec =
     tie.close
     (tie.spec
     (λ c. search needs)
-    returns
+    (λ c. (ending-lf _ _ (c .before .before .pre) (c .if1 .taken), omega arith))
     returns-2
     (λ c. search needs)
     returns-3

@@ -17,12 +17,6 @@ abbrev μ-loop : tie.MeasureT-loop
 returns-2 : tie.Need-returns-2 Inv-loop μ-loop
 returns-2 c = named-no _ _ _ _ (c .before .before .before .before .before .if1 .left) (c .before .before .before .loop-test .taken) (c .if2 .taken)
 
-loop-again : tie.Need-loop-again Inv-loop μ-loop
-loop-again c = (omega arith, below-more _ _ (c .before .before .before .before .loop .inv .1) (c .if2 .left))
-
-returns-3 : tie.Need-returns-3 Inv-loop μ-loop
-returns-3 c = named-yes _ _ _ (c .before .before .if1 .left) (λ k b. c .before .loop .inv .1 k (omega arith))
-
 pub is-at-spec : {M : Type 1} → statement M
 is-at-spec =
     tie.close
@@ -38,5 +32,5 @@ is-at-spec =
     returns-2
     (λ c. search needs)
     (λ c. search needs)
-    loop-again
-    returns-3)
+    (λ c. (omega arith, below-more _ _ (c .before .before .before .before .loop .inv .1) (c .if2 .left)))
+    (λ c. named-yes _ _ _ (c .before .before .if1 .left) (λ k b. c .before .loop .inv .1 k (omega arith))))

@@ -15,9 +15,6 @@ abbrev μ-loop : tie.MeasureT-loop
 loop-again : tie.Need-loop-again Inv-loop μ-loop
 loop-again c = (omega arith, bound-more (c .before .before .before .before .before .args .s .now) (c .before .before .before .before .before .args .i) (c .before .before .before .loop .k) _ _ (c .before .before .before .loop .inv .1) (c .lesser .ensures .0) (c .lesser .ensures .1))
 
-returns : tie.Need-returns Inv-loop μ-loop
-returns c = λ k h. c .before .loop .inv .1 k (omega (arith, c .loop-test .left))
-
 pub least-byte-spec : {M : Type 1} → statement M
 least-byte-spec =
     tie.close
@@ -31,4 +28,4 @@ least-byte-spec =
     (λ c. search needs)
     (λ c. search needs)
     loop-again
-    returns)
+    (λ c. λ k h. c .before .loop .inv .1 k (omega (arith, c .loop-test .left))))

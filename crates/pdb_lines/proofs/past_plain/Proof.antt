@@ -12,15 +12,6 @@ Inv-loop s at i₀ i = Plain s at i
 abbrev μ-loop : tie.MeasureT-loop
 μ-loop s at i₀ i = length s - i
 
-least-byte-requires : tie.Need-least-byte-requires Inv-loop μ-loop
-least-byte-requires c κs = omega (arith, c .loop-test .taken, c .before .loop .inv .end)
-
-add-i : tie.Need-add-i Inv-loop μ-loop
-add-i c = omega (arith, c .before .before .loop-test .taken, c .before .before .before .loop .inv .end)
-
-loop-less : tie.Need-loop-less Inv-loop μ-loop
-loop-less c = omega (arith, c .before .before .loop-test .taken, c .before .before .before .loop .inv .end)
-
 loop-again : tie.Need-loop-again Inv-loop μ-loop
 loop-again c = plain-more _ _ _ _ (c .before .before .before .loop .inv) (omega (arith, c .before .before .loop-test .taken, c .before .before .before .loop .inv .end)) (c .before .least-byte .ensures) (c .if1 .taken)
 
@@ -32,9 +23,9 @@ past-plain-spec =
     μ-loop
     (λ c. plain-start _ _ (c .before .pre))
     (λ c. omega (arith, c .loop .inv .end))
-    least-byte-requires
-    add-i
-    loop-less
+    (λ c κs. omega (arith, c .loop-test .taken, c .before .loop .inv .end))
+    (λ c. omega (arith, c .before .before .loop-test .taken, c .before .before .before .loop .inv .end))
+    (λ c. omega (arith, c .before .before .loop-test .taken, c .before .before .before .loop .inv .end))
     loop-again
     (λ c. c .before .before .before .loop .inv)
     (λ c. c .before .loop .inv))

@@ -1,7 +1,8 @@
-use mathlib.Core.Path.{sym, _∙_, ap}
+use mathlib.Core.Path.{refl, sym, _∙_, ap}
 use Rattle.pdb_file.specs.Faults.{isClean}
-use Rattle.pdb_reader.proofs.Answers.{empty-tables, noted-same, surveyed-counts, residues-past, refused, right, clash}
+use Rattle.pdb_reader.proofs.Answers.{empty-tables, noted-same, surveyed-counts, residues-past, refused, right}
 use borrow.Author.Needs.{needs}
+use Rattle.lists.proofs.Bools.{clash}
 use Rattle.pdb_reader.proofs.read_pdb.Statement.{statement}
 use Rattle.pdb_reader.proofs.read_pdb.Tie as tie
 
@@ -22,7 +23,7 @@ returns-2 : tie.Need-returns-2
 returns-2 c = right _ _ _ (c .before .before .before .before .before .before .before .before .before .before .before .find-fault .ensures .0) (sym (c .before .before .before .before .before .before .before .before .before .is-clean .ensures) ∙ c .before .before .before .before .before .before .before .before .if2 .taken) _ _ (c .before .before .read-right .ensures .0) (c .before .before .read-right .ensures .1)
 
 returns-3 : tie.Need-returns-3
-returns-3 c = refused _ _ _ (c .before .before .before .before .find-fault .ensures .0) _ (c .by-fault2 .ensures) (λ e. absurd (clash (sym e ∙ sym (c .before .before .is-clean .ensures) ∙ c .before .if2 .left)))
+returns-3 c = refused _ _ _ (c .before .before .before .before .find-fault .ensures .0) _ (c .by-fault2 .ensures) (λ e. clash refl (sym e ∙ sym (c .before .before .is-clean .ensures) ∙ c .before .if2 .left))
 
 pub read-pdb-spec : {M : Type 1} → statement M
 read-pdb-spec =

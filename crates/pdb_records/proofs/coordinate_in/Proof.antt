@@ -3,9 +3,6 @@ use borrow.Author.Needs.{needs}
 use Rattle.pdb_records.proofs.coordinate_in.Statement.{statement}
 use Rattle.pdb_records.proofs.coordinate_in.Tie as tie
 
-returns : tie.Need-returns
-returns c = simp (sym (c .before .before .thousandths-in .ensures) ∙ c .enum-told .given .1)
-
 returns-2 : tie.Need-returns-2
 returns-2 c = simp (sym (c .before .before .before .before .thousandths-in .ensures) ∙ c .before .before .n .given .1, c .coordinate-bits .ensures)
 
@@ -17,5 +14,5 @@ coordinate-in-spec =
     (λ c. search needs)
     (λ c. search needs)
     (λ c κs. search needs)
-    returns
+    (λ c. simp (sym (c .before .before .thousandths-in .ensures) ∙ c .enum-told .given .1))
     returns-2)

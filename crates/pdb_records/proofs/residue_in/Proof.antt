@@ -6,9 +6,6 @@ use Rattle.pdb_records.proofs.residue_in.Tie as tie
 returns : tie.Need-returns
 returns c = simp (sym (c .before .before .before .before .whole-in .ensures) ∙ c .before .before .n .given .1, c .if1 .taken)
 
-returns-2 : tie.Need-returns-2
-returns-2 c = simp (sym (c .before .before .whole-in .ensures) ∙ c .enum-told .given .1)
-
 returns-3 : tie.Need-returns-3
 returns-3 c = simp (sym (c .before .before .before .before .whole-in .ensures) ∙ c .before .before .n .given .1, c .if1 .left)
 
@@ -31,5 +28,5 @@ residue-in-spec =
     (λ c. search needs)
     (λ c. search needs)
     (λ c. search needs)
-    returns-2
+    (λ c. simp (sym (c .before .before .whole-in .ensures) ∙ c .enum-told .given .1))
     returns-3)

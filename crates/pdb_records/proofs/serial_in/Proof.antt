@@ -9,9 +9,6 @@ enum-told c = search needs
 returns : tie.Need-returns
 returns c = simp (sym (c .before .before .before .before .whole-in .ensures) ∙ c .before .before .n .given .1, c .if1 .taken)
 
-returns-2 : tie.Need-returns-2
-returns-2 c = simp (sym (c .before .before .whole-in .ensures) ∙ c .enum-told .given .1)
-
 returns-3 : tie.Need-returns-3
 returns-3 c = simp (sym (c .before .before .before .before .whole-in .ensures) ∙ c .before .before .n .given .1, c .if1 .left)
 
@@ -24,5 +21,5 @@ serial-in-spec =
     (λ c. search needs)
     returns
     (λ c. search needs)
-    returns-2
+    (λ c. simp (sym (c .before .before .whole-in .ensures) ∙ c .enum-told .given .1))
     returns-3)

@@ -4,9 +4,6 @@ use borrow.Author.Needs.{needs}
 use Rattle.pdb_search.proofs.is_end.Statement.{statement}
 use Rattle.pdb_search.proofs.is_end.Tie as tie
 
-returns : tie.Need-returns
-returns c = simp (sym (c .before .is-at .ensures) ∙ not-true _ (c .if1 .taken))
-
 returns-2 : tie.Need-returns-2
 returns-2 c = simp (sym (c .before .before .is-at .ensures) ∙ not-false _ (c .before .if1 .left), le-leb _ _ (c .if2 .taken))
 
@@ -19,7 +16,7 @@ is-end-spec =
     (tie.spec
     (λ c. search needs)
     (λ c κs. search needs)
-    returns
+    (λ c. simp (sym (c .before .is-at .ensures) ∙ not-true _ (c .if1 .taken)))
     returns-2
     (λ c. search needs)
     returns-3)

@@ -29,9 +29,6 @@ loop-again c =
     let p = c .before .before .before .before .before .before .before .before .line-at .ensures in
     (omega (arith, inv .0, p .onward), p .within, search-on _ _ _ _ _ _ _ _ (inv .0) (inv .2) p _ (c .before .before .before .before .before .before .kind-of .ensures) _ (c .before .before .before .before .before .is-over .ensures) (c .before .before .before .before .if1 .left) _ (c .before .before .before .saw-model .ensures) _ (c .before .is-wanted .ensures) (c .if2 .left))
 
-returns-3 : tie.Need-returns-3 Inv-loop μ-loop
-returns-3 c = search-over _ _ _ _ _ 0 0 _ (c .before .loop .inv .0) (c .before .loop .inv .2) (c .loop-test .left)
-
 pub next-line-spec : {M : Type 1} → statement M
 next-line-spec =
     tie.close
@@ -54,4 +51,4 @@ next-line-spec =
     returns-2
     loop-less
     loop-again
-    returns-3)
+    (λ c. search-over _ _ _ _ _ 0 0 _ (c .before .loop .inv .0) (c .before .loop .inv .2) (c .loop-test .left)))

@@ -5,9 +5,6 @@ use borrow.Author.Needs.{needs}
 use Rattle.pdb_survey.proofs.take_in.Statement.{statement}
 use Rattle.pdb_survey.proofs.take_in.Tie as tie
 
-returns : tie.Need-returns
-returns c = (λ l N. noted-over _ _ _ _ _ l N _ (c .if1 .taken), c .before .pre .1, omega arith)
-
 add-ends : tie.Need-add-ends
 add-ends c = omega (arith, c .before .before .before .find .ensures .1, c .before .before .before .before .before .before .before .before .pre .0 .few)
 
@@ -33,7 +30,7 @@ pub take-in-spec : {M : Type 1} → statement M
 take-in-spec =
     tie.close
     (tie.spec
-    returns
+    (λ c. (λ l N. noted-over _ _ _ _ _ l N _ (c .if1 .taken), c .before .pre .1, omega arith))
     (λ c. search needs)
     (λ c κs. search needs)
     (λ c κs. search needs)

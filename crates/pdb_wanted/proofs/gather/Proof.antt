@@ -13,9 +13,6 @@ Inv-loop s at seen keys₀ links₀ from₀ model₀ n₀ keys links from model 
 abbrev μ-loop : tie.MeasureT-loop
 μ-loop s at seen keys₀ links₀ from₀ model₀ n₀ keys links from model n = length s - from
 
-want-ends-requires : tie.Need-want-ends-requires Inv-loop μ-loop
-want-ends-requires c κs = c .before .before .before .before .before .before .before .loop .inv .1
-
 loop-less : tie.Need-loop-less Inv-loop μ-loop
 loop-less c = let o = stepped-got _ _ _ _ _ _ _ (c .before .before .before .before .before .before .step .ensures) (c .before .before .before .before .next .given .1) in
     omega (arith, o .more, o .within)
@@ -35,7 +32,7 @@ gather-spec =
     (λ c. search needs)
     (λ c. search needs)
     (λ c. c .before .before .before .before .loop .inv .1)
-    want-ends-requires
+    (λ c κs. c .before .before .before .before .before .before .before .loop .inv .1)
     loop-less
     loop-again
     (λ c. c .before .loop .inv .1))

@@ -8,18 +8,6 @@ use Rattle.pdb_wanted.proofs.note_atom.Tie as tie
 returns : tie.Need-returns
 returns c = λ l W. noted-atom _ _ _ _ l _ _ (ap atomsIn (c .before .before .before .r .given .1)) (c .note-name .ensures (names l) W)
 
-returns-2 : tie.Need-returns-2
-returns-2 c = λ l W. noted-none _ _ _ _ l _ (ap atomsIn (c .enum-told .given .1)) W
-
-returns-3 : tie.Need-returns-3
-returns-3 c = λ l W. noted-none _ _ _ _ l _ (ap atomsIn (c .enum-told2 .given .1)) W
-
-returns-4 : tie.Need-returns-4
-returns-4 c = λ l W. noted-none _ _ _ _ l _ (ap atomsIn (c .enum-told3 .given .1)) W
-
-returns-5 : tie.Need-returns-5
-returns-5 c = λ l W. noted-none _ _ _ _ l _ (ap atomsIn (c .enum-told4 .given .1)) W
-
 pub note-atom-spec : {M : Type 1} → statement M
 note-atom-spec =
     tie.close
@@ -31,7 +19,7 @@ note-atom-spec =
     (λ c. search needs)
     (λ c. search needs)
     returns
-    returns-2
-    returns-3
-    returns-4
-    returns-5)
+    (λ c. λ l W. noted-none _ _ _ _ l _ (ap atomsIn (c .enum-told .given .1)) W)
+    (λ c. λ l W. noted-none _ _ _ _ l _ (ap atomsIn (c .enum-told2 .given .1)) W)
+    (λ c. λ l W. noted-none _ _ _ _ l _ (ap atomsIn (c .enum-told3 .given .1)) W)
+    (λ c. λ l W. noted-none _ _ _ _ l _ (ap atomsIn (c .enum-told4 .given .1)) W))

@@ -16,9 +16,6 @@ abbrev μ-loop : tie.MeasureT-loop
 returns : tie.Need-returns Inv-loop μ-loop
 returns c = noting-over _ _ _ _ _ _ _ (c .before .before .before .loop .inv) (stepped-done _ _ _ _ (c .before .before .step .ensures) (c .enum-told .given .1))
 
-note-atom-requires : tie.Need-note-atom-requires Inv-loop μ-loop
-note-atom-requires c κs = c .before .before .before .before .before .loop .inv .wanted .index
-
 loop-less : tie.Need-loop-less Inv-loop μ-loop
 loop-less c = let o = stepped-got _ _ _ _ _ _ _ (c .before .before .before .before .before .step .ensures) (c .before .before .before .next .given .1) in
     omega (arith, o .more, o .within)
@@ -40,6 +37,6 @@ note-atoms-spec =
     (λ c. search needs)
     (λ c. search needs)
     returns
-    note-atom-requires
+    (λ c κs. c .before .before .before .before .before .loop .inv .wanted .index)
     loop-less
     loop-again)

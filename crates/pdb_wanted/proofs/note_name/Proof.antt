@@ -4,14 +4,15 @@ use borrow.Author.Needs.{needs}
 use Rattle.pdb_wanted.proofs.note_name.Statement.{statement}
 use Rattle.pdb_wanted.proofs.note_name.Tie as tie
 
-element-write-bits : tie.Need-element-write-bits
-element-write-bits c = omega (arith, c .before .find .ensures .1, c .before .before .pre .few)
-
 returns : tie.Need-returns
 returns c = λ l W. noted-there _ _ _ _ l W _ _ (c .before .find .ensures .0) (c .if1 .taken) (c .before .find .ensures .1)
 
-returns-2 : tie.Need-returns-2
-returns-2 c = λ l W. noted-not _ _ _ _ l W _ _ (c .before .find .ensures .0) (c .if1 .left)
-
 pub note-name-spec : {M : Type 1} → statement M
-note-name-spec = tie.close (tie.spec (λ c κs. search needs) (λ c. search needs) element-write-bits returns returns-2)
+note-name-spec =
+    tie.close
+    (tie.spec
+    (λ c κs. search needs)
+    (λ c. search needs)
+    (λ c. omega (arith, c .before .find .ensures .1, c .before .before .pre .few))
+    returns
+    (λ c. λ l W. noted-not _ _ _ _ l W _ _ (c .before .find .ensures .0) (c .if1 .left)))

@@ -1,17 +1,14 @@
-use Rattle.pdb_survey.proofs.Walk.{clash}
 use Rattle.pdb_wanted.proofs.Wanted.{unknown}
 use borrow.Author.Needs.{needs}
+use Rattle.lists.proofs.Bools.{clash}
 use Rattle.pdb_wanted.proofs.refresh.Statement.{statement}
 use Rattle.pdb_wanted.proofs.refresh.Tie as tie
 
 gather-requires : tie.Need-gather-requires
 gather-requires c κs = (c .before .before .before .before .before .before .before .before .before .pre .0, c .before .before .forget .ensures _ (c .before .before .before .before .before .before .before .before .before .pre .1 .index .keys-size))
 
-note-atoms-requires : tie.Need-note-atoms-requires
-note-atoms-requires c κs = unknown _ _ _ (c .before .before .before .before .gather .ensures)
-
 returns-2 : tie.Need-returns-2
-returns-2 c = (c .note-atoms .ensures, λ e. absurd (clash _ (c .before .before .before .before .before .before .before .before .before .before .before .serves .ensures e) (c .before .before .before .before .before .before .before .before .before .before .if1 .left)))
+returns-2 c = (c .note-atoms .ensures, λ e. clash (c .before .before .before .before .before .before .before .before .before .before .before .serves .ensures e) (c .before .before .before .before .before .before .before .before .before .before .if1 .left))
 
 pub refresh-spec : {M : Type 1} → statement M
 refresh-spec =
@@ -21,5 +18,5 @@ refresh-spec =
     (λ c. search needs)
     (λ c κs. search needs)
     gather-requires
-    note-atoms-requires
+    (λ c κs. unknown _ _ _ (c .before .before .before .before .gather .ensures))
     returns-2)

@@ -6,9 +6,6 @@ use Rattle.ribbon_c.proofs.built_words.Tie as tie
 returns : tie.Need-returns
 returns c = rw (c .word3 .ensures, c .before .word2 .ensures, c .before .before .word .ensures, c .before .before .before .before .a .given .1)
 
-returns-2 : tie.Need-returns-2
-returns-2 c = c .refusal-words .ensures ∙ rw (c .before .before .a2 .given .1)
-
 pub built-words-spec : {M : Type 1} → statement M
 built-words-spec =
     tie.close
@@ -20,4 +17,4 @@ built-words-spec =
     (λ c. search needs)
     (λ c κs. search needs)
     returns
-    returns-2)
+    (λ c. c .refusal-words .ensures ∙ rw (c .before .before .a2 .given .1)))

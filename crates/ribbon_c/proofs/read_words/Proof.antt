@@ -3,9 +3,6 @@ use borrow.Author.Needs.{needs}
 use Rattle.ribbon_c.proofs.read_words.Statement.{statement}
 use Rattle.ribbon_c.proofs.read_words.Tie as tie
 
-returns-2 : tie.Need-returns-2
-returns-2 c = c .refusal-words .ensures ∙ rw (c .before .before .a2 .given .1)
-
 pub read-words-spec : {M : Type 1} → statement M
 read-words-spec =
     tie.close
@@ -15,4 +12,4 @@ read-words-spec =
     (λ c. search needs)
     (λ c κs. search needs)
     (λ c. rw (c .word .ensures, c .before .before .a .given .1))
-    returns-2)
+    (λ c. c .refusal-words .ensures ∙ rw (c .before .before .a2 .given .1)))

@@ -7,9 +7,6 @@ use borrow.Author.Needs.{needs}
 use Rattle.ribbon_c.proofs.ribbon_tube.Statement.{statement}
 use Rattle.ribbon_c.proofs.ribbon_tube.Tie as tie
 
-returns : tie.Need-returns
-returns c = part-empty _ _ _ (sym (c .if1 .taken) ∙ ap length (c .before .tube .ensures))
-
 mul-start : tie.Need-mul-start
 mul-start c =
     let args = c .before .before .before .before .args in
@@ -46,7 +43,7 @@ ribbon-tube-spec =
     tie.close
     (tie.spec
     (λ c κs. search needs)
-    returns
+    (λ c. part-empty _ _ _ (sym (c .if1 .taken) ∙ ap length (c .before .tube .ensures)))
     mul-start
     add-start
     mul-start-2

@@ -3,16 +3,13 @@ use borrow.Author.Needs.{needs}
 use Rattle.curve.proofs.samples.before.Statement.{statement}
 use Rattle.curve.proofs.samples.before.Tie as tie
 
-returns : tie.Need-returns
-returns c = rw (eq-eqb _ _ (c .before .before .if1 .taken), c .add .ensures, c .before .sub .ensures)
-
 pub before-spec : {M : Type 1} → statement M
 before-spec =
     tie.close
     (tie.spec
     (λ c κs. search needs)
     (λ c κs. search needs)
-    returns
+    (λ c. rw (eq-eqb _ _ (c .before .before .if1 .taken), c .add .ensures, c .before .sub .ensures))
     (λ c. search needs)
     (λ c κs. search needs)
     (λ c. rw (ne-eqb _ _ (c .before .if1 .left)) (c .get-vec .ensures)))

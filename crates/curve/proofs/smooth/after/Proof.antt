@@ -3,8 +3,11 @@ use borrow.Author.Needs.{needs}
 use Rattle.curve.proofs.smooth.after.Statement.{statement}
 use Rattle.curve.proofs.smooth.after.Tie as tie
 
-returns : tie.Need-returns
-returns c = (rw (lt-ltb _ _ (c .if1 .taken)), search needs, search needs)
-
 pub after-spec : {M : Type 1} → statement M
-after-spec = tie.close (tie.spec (λ c. search needs) (λ c. search needs) returns (λ c. (rw (le-ltb _ _ (c .if1 .left)), search needs, search needs)))
+after-spec =
+    tie.close
+    (tie.spec
+    (λ c. search needs)
+    (λ c. search needs)
+    (λ c. (rw (lt-ltb _ _ (c .if1 .taken)), search needs, search needs))
+    (λ c. (rw (le-ltb _ _ (c .if1 .left)), search needs, search needs)))

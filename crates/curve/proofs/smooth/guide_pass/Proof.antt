@@ -20,9 +20,6 @@ loop-holds : tie.Need-loop-holds Inv-loop μ-loop
 unfolding put upto
 loop-holds c = (omega arith, c .get-vec .ensures, refl)
 
-get-vec-requires-3 : tie.Need-get-vec-requires-3 Inv-loop μ-loop
-get-vec-requires-3 c κs = omega (arith, kept _ _ _ (c .before .before .before .before .before .loop .inv .2))
-
 put-vec-requires : tie.Need-put-vec-requires Inv-loop μ-loop
 put-vec-requires c κs = omega (arith, kept _ _ _ (c .before .before .before .before .before .before .before .before .loop .inv .2))
 
@@ -47,7 +44,7 @@ guide-pass-spec =
     loop-holds
     (λ c κs. omega (arith, kept _ _ _ (c .before .before .loop .inv .2)))
     (λ c κs. search needs)
-    get-vec-requires-3
+    (λ c κs. omega (arith, kept _ _ _ (c .before .before .before .before .before .loop .inv .2)))
     (λ c. search needs)
     (λ c κs. search needs)
     put-vec-requires

@@ -20,12 +20,6 @@ loop-holds : tie.Need-loop-holds Inv-loop μ-loop
 unfolding put upto
 loop-holds c = (omega arith, c .get-vec .ensures, refl)
 
-get-vec-requires-3 : tie.Need-get-vec-requires-3 Inv-loop μ-loop
-get-vec-requires-3 c κs = omega (arith, kept _ _ _ (c .before .before .before .before .loop .inv .2))
-
-put-vec-requires : tie.Need-put-vec-requires Inv-loop μ-loop
-put-vec-requires c κs = omega (arith, kept _ _ _ (c .before .before .before .before .before .before .before .loop .inv .2))
-
 loop-again : tie.Need-loop-again Inv-loop μ-loop
 loop-again c =
     let loop = c .before .before .before .before .before .before .before .before .before .before .loop in
@@ -49,11 +43,11 @@ position-pass-spec =
     (λ c. search needs)
     (λ c κs. omega (arith, kept _ _ _ (c .before .before .loop .inv .2)))
     (λ c. search needs)
-    get-vec-requires-3
+    (λ c κs. omega (arith, kept _ _ _ (c .before .before .before .before .loop .inv .2)))
     (λ c. search needs)
     (λ c. search needs)
     (λ c κs. search needs)
-    put-vec-requires
+    (λ c κs. omega (arith, kept _ _ _ (c .before .before .before .before .before .before .before .loop .inv .2)))
     (λ c. search needs)
     (λ c. search needs)
     loop-again

@@ -13,18 +13,6 @@ whole m s a b c = omega arith
 power : (m s : ℕ) → 2 ^ 23 ≤ m → m < 2 ^ 24 → s ≤ 23 → ((127 - s) * 2 ^ 23 + m) / 2 ^ 23 ≡ 128 - s
 power m s a b c = omega arith
 
-cast-result : tie.Need-cast-result
-cast-result c = omega (arith, lift-le (c .before .args .b) (omega arith) (omega arith))
-
-sub-result : tie.Need-sub-result
-sub-result c = omega (arith, lift-le (c .before .args .b) (omega arith) (omega arith))
-
-cast-result-2 : tie.Need-cast-result-2
-cast-result-2 c = omega (arith, lift-le (c .before .args .b) (omega arith) (omega arith))
-
-shl-result : tie.Need-shl-result
-shl-result c = omega (arith, lift-le (c .before .args .b) (omega arith) (omega arith))
-
 add-result : tie.Need-add-result
 add-result c = let b = c .before .args .b in omega (arith, lift-le b (omega arith) (omega arith), lifted-lt b (omega arith) (omega arith))
 
@@ -50,11 +38,11 @@ lifted-spec =
     tie.close
     (tie.spec
     (λ c. lift-ge (c .before .args .b) (omega arith) (omega arith))
-    cast-result
-    sub-result
+    (λ c. omega (arith, lift-le (c .before .args .b) (omega arith) (omega arith)))
+    (λ c. omega (arith, lift-le (c .before .args .b) (omega arith) (omega arith)))
     (λ c. search needs)
-    cast-result-2
-    shl-result
+    (λ c. omega (arith, lift-le (c .before .args .b) (omega arith) (omega arith)))
+    (λ c. omega (arith, lift-le (c .before .args .b) (omega arith) (omega arith)))
     add-result
     returns
     (λ c. search needs)

@@ -7,22 +7,16 @@ use borrow.Author.Needs.{needs}
 use Rattle.floats.proofs.root.root_bits.Statement.{statement}
 use Rattle.floats.proofs.root.root_bits.Tie as tie
 
-near-one-requires : tie.Need-near-one-requires
-near-one-requires c κs = between-is (c .before .before .args .b) (sym (c .before .is-near-one .ensures) ∙ c .if1 .taken)
-
-returns-3 : tie.Need-returns-3
-returns-3 c = at-zero ∙ ap (λ (x : ℕ). toBits binary32 (root binary32 (ofBits binary32 x))) (sym (c .if3 .taken))
-
 pub root-bits-spec : {M : Type 1} → statement M
 root-bits-spec =
     tie.close
     (tie.spec
     (λ c κs. search needs)
-    near-one-requires
+    (λ c κs. between-is (c .before .before .args .b) (sym (c .before .is-near-one .ensures) ∙ c .if1 .taken))
     (λ c. search needs)
     (λ c κs. search needs)
     (λ c. search needs)
-    returns-3
+    (λ c. at-zero ∙ ap (λ (x : ℕ). toBits binary32 (root binary32 (ofBits binary32 x))) (sym (c .if3 .taken)))
     (λ c κs. search needs)
     (λ c κs. search needs)
     (λ c. search needs))

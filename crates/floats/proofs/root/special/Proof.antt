@@ -13,8 +13,5 @@ returns c = c .if1 .taken ∙ at-inf ∙ ap (λ (x : ℕ). toBits binary32 (root
 returns-2 : tie.Need-returns-2
 returns-2 c = c .if2 .taken ∙ at-minus-zero ∙ ap (λ (x : ℕ). toBits binary32 (root binary32 (ofBits binary32 x))) (sym (c .if2 .taken))
 
-returns-3 : tie.Need-returns-3
-returns-3 c = no-root (c .before .before .args .b) (omega arith) (omega arith) (c .if2 .left)
-
 pub special-spec : {M : Type 1} → statement M
-special-spec = tie.close (tie.spec returns returns-2 returns-3)
+special-spec = tie.close (tie.spec returns returns-2 (λ c. no-root (c .before .before .args .b) (omega arith) (omega arith) (c .if2 .left)))

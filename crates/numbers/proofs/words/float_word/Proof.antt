@@ -1,5 +1,6 @@
 use borrow.Author.Needs.{needs}
-use Rattle.numbers.proofs.Laws.{same-no-nan, nan-word}
+use Rattle.floats.proofs.RootBits.{same-no-nan}
+use Rattle.numbers.proofs.Laws.{nan-word}
 use Rattle.numbers.proofs.words.float_word.Statement.{statement}
 use Rattle.numbers.proofs.words.float_word.Tie as tie
 

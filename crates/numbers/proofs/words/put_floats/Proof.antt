@@ -20,9 +20,6 @@ loop-holds : tie.Need-loop-holds Inv-loop μ-loop
 unfolding put upto floatBytes
 loop-holds c = (omega arith, refl)
 
-put-word-requires : tie.Need-put-word-requires Inv-loop μ-loop
-put-word-requires c κs = omega (arith, kept _ _ _ (c .before .before .before .before .loop .inv .1))
-
 loop-again : tie.Need-loop-again Inv-loop μ-loop
 unfolding floatBytes u32 u16
 loop-again c = (omega arith, turn (λ (k : ℕ). u32 (toBits binary32 (getD (c .before .before .before .before .before .before .before .before .before .before .args .f .now) k nan))) 4 (λ k. refl) _ _ _ _ (c .before .before .put-word .ensures ∙ rw (c .before .before .before .float-word .ensures)) (c .before .before .before .before .before .before .before .loop .inv .1) refl)
@@ -42,7 +39,7 @@ put-floats-spec =
     (λ c. omega arith)
     (λ c. omega arith)
     (λ c κs. tt)
-    put-word-requires
+    (λ c κs. omega (arith, kept _ _ _ (c .before .before .before .before .loop .inv .1)))
     (λ c. omega arith)
     (λ c. omega arith)
     loop-again

@@ -1,9 +1,10 @@
 use mathlib.Core.Path.{ap, _∙_}
 use Rattle.lists.specs.Put.{put}
-use Rattle.numbers.proofs.Laws.{put4, word-bytes}
+use Rattle.numbers.proofs.Laws.{word-bytes}
 use native.Mathlib.Omega.{arith}
 use lib.ListN.{length-set}
 use borrow.Author.Needs.{needs}
+use Rattle.lists.proofs.Puts.{put4}
 use Rattle.numbers.proofs.words.put_word.Statement.{statement}
 use Rattle.numbers.proofs.words.put_word.Tie as tie
 

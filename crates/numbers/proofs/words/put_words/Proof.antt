@@ -19,9 +19,6 @@ loop-holds : tie.Need-loop-holds Inv-loop μ-loop
 unfolding put upto wordBytes
 loop-holds c = (omega arith, refl)
 
-put-word-requires : tie.Need-put-word-requires Inv-loop μ-loop
-put-word-requires c κs = omega (arith, kept _ _ _ (c .before .before .before .loop .inv .1))
-
 loop-again : tie.Need-loop-again Inv-loop μ-loop
 unfolding wordBytes u32 u16
 loop-again c = (omega arith, turn (λ (k : ℕ). u32 (getD (c .before .before .before .before .before .before .before .before .before .args .w .now) k 0)) 4 (λ k. refl) _ _ _ _ (c .before .before .put-word .ensures) (c .before .before .before .before .before .before .loop .inv .1) refl)
@@ -40,7 +37,7 @@ put-words-spec =
     (λ c. omega arith)
     (λ c. omega arith)
     (λ c. omega arith)
-    put-word-requires
+    (λ c κs. omega (arith, kept _ _ _ (c .before .before .before .loop .inv .1)))
     (λ c. omega arith)
     (λ c. omega arith)
     loop-again

@@ -4,12 +4,6 @@ use borrow.Author.Needs.{needs}
 use Rattle.pdb_job.proofs.records.to_segment.Statement.{statement}
 use Rattle.pdb_job.proofs.records.to_segment.Tie as tie
 
-serial-at-requires : tie.Need-serial-at-requires
-serial-at-requires c κs = (omega arith, omega (arith, c .find .ensures .1, c .before .pre .few))
-
-serial-at-requires-2 : tie.Need-serial-at-requires-2
-serial-at-requires-2 c κs = (omega arith, omega (arith, c .find2 .ensures .1, c .before .before .before .pre .few))
-
 returns : tie.Need-returns
 returns c = λ s R.
     segment-made s (c .before .before .before .before .args .g) _ _
@@ -21,7 +15,7 @@ to-segment-spec =
     tie.close
     (tie.spec
     (λ c κs. search needs)
-    serial-at-requires
+    (λ c κs. (omega arith, omega (arith, c .find .ensures .1, c .before .pre .few)))
     (λ c κs. search needs)
-    serial-at-requires-2
+    (λ c κs. (omega arith, omega (arith, c .find2 .ensures .1, c .before .before .before .pre .few)))
     returns)

@@ -13,9 +13,6 @@ Inv-loop s keys links ends marks n out₀ first second at₀ seen₀ places₀ o
 abbrev μ-loop : tie.MeasureT-loop
 μ-loop s keys links ends marks n out₀ first second at₀ seen₀ places₀ out at seen places = length s - at
 
-loop-holds : tie.Need-loop-holds Inv-loop μ-loop
-loop-holds c = writing-start _ _ _ _ (omega arith) (c .before .before .pre .2) (c .before .before .pre .3)
-
 returns : tie.Need-returns Inv-loop μ-loop
 returns c = writing-over _ _ _ _ _ _ _ _ (c .before .before .before .loop .inv) (stepped-done _ _ _ _ (c .before .before .step .ensures) (c .enum-told .given .1))
 
@@ -42,7 +39,7 @@ write-records-spec =
     (tie.spec
     Inv-loop
     μ-loop
-    loop-holds
+    (λ c. writing-start _ _ _ _ (omega arith) (c .before .before .pre .2) (c .before .before .pre .3))
     (λ c κs. c .loop .inv .inside)
     (λ c. search needs)
     (λ c. search needs)

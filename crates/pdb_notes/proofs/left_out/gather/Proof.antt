@@ -27,9 +27,6 @@ part-name-in-start c = found-got _ _ _ _ _ _ (c .before .before .before .before 
 part-name-in-end : tie.Need-part-name-in-end Inv-loop μ-loop
 part-name-in-end c = found-got _ _ _ _ _ _ (c .before .before .before .before .before .next-line .ensures) (c .before .before .before .next .given .1) .end
 
-add-requires : tie.Need-add-requires Inv-loop μ-loop
-add-requires c κs = c .before .before .before .before .before .before .before .before .loop .inv .index
-
 sub-tell-new : tie.Need-sub-tell-new Inv-loop μ-loop
 sub-tell-new c = found-got _ _ _ _ _ _ (c .before .before .before .before .before .before .before .before .next-line .ensures) (c .before .before .before .before .before .before .next .given .1) .start
 
@@ -62,7 +59,7 @@ gather-spec =
     part-name-in-start
     part-name-in-end
     (λ c κs. search needs)
-    add-requires
+    (λ c κs. c .before .before .before .before .before .before .before .before .loop .inv .index)
     sub-tell-new
     part-tell-new-start
     part-tell-new-end

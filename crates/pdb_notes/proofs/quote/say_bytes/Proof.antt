@@ -13,15 +13,6 @@ Inv-loop l tight text₀ n₀ i₀ text n i = (n ≤ 80) × (i ≤ length l) × 
 abbrev μ-loop : tie.MeasureT-loop
 μ-loop l tight text₀ n₀ i₀ text n i = length l - i
 
-put-shown-requires : tie.Need-put-shown-requires Inv-loop μ-loop
-put-shown-requires c κs = (c .before .before .before .loop .inv .0, c .before .before .before .loop .inv .2)
-
-loop-again : tie.Need-loop-again Inv-loop μ-loop
-loop-again c = (c .put-shown .ensures .0, omega arith, c .put-shown .ensures .1)
-
-end-of-requires : tie.Need-end-of-requires Inv-loop μ-loop
-end-of-requires c κs = (c .before .before .loop .inv .0, c .before .before .loop .inv .2)
-
 slice-aggregate-write-all : tie.Need-slice-aggregate-write-all Inv-loop μ-loop
 slice-aggregate-write-all c = sym (length-take-le _ _ (omega (arith, c .before .end-of .ensures, c .before .before .before .before .loop .inv .2)))
 
@@ -33,11 +24,11 @@ say-bytes-spec =
     μ-loop
     (λ c. (omega arith, omega arith, refl))
     (λ c. search needs)
-    put-shown-requires
+    (λ c κs. (c .before .before .before .loop .inv .0, c .before .before .before .loop .inv .2))
     (λ c. search needs)
     (λ c. search needs)
-    loop-again
-    end-of-requires
+    (λ c. (c .put-shown .ensures .0, omega arith, c .put-shown .ensures .1))
+    (λ c κs. (c .before .before .loop .inv .0, c .before .before .loop .inv .2))
     (λ c. search needs)
     slice-aggregate-write-all
     (λ c κs. search needs)

@@ -6,9 +6,6 @@ use borrow.Author.Needs.{needs}
 use Rattle.skin.proofs.rings.put_capped.Statement.{statement}
 use Rattle.skin.proofs.rings.put_capped.Tie as tie
 
-put-ring-requires : tie.Need-put-ring-requires
-put-ring-requires c κs = less _ _ (c .before .before .before .before .before .before .pre) (omega arith)
-
 put-vertex-requires : tie.Need-put-vertex-requires
 put-vertex-requires c κs = room _ _ _ _ _ (c .before .before .before .before .before .before .before .before .before .put-ring .ensures) (c .before .before .before .before .before .before .before .before .before .before .before .before .before .before .before .before .pre) (c .before .before .before .before .before .before .before .before .before .before .before .before .before .before .before .before .args .v + 8 + 1) (omega arith)
 
@@ -20,7 +17,7 @@ put-capped-spec =
     tie.close
     (tie.spec
     (λ c. search needs)
-    put-ring-requires
+    (λ c κs. less _ _ (c .before .before .before .before .before .before .pre) (omega arith))
     put-vertex-requires
     (λ c. search needs)
     (λ c. search needs)

@@ -20,9 +20,6 @@ loop-holds : tie.Need-loop-holds Inv-loop μ-loop
 unfolding put upto
 loop-holds c = (omega arith, refl)
 
-put-vec-requires : tie.Need-put-vec-requires Inv-loop μ-loop
-put-vec-requires c κs = omega (arith, kept _ _ _ (c .before .before .before .loop .inv .1))
-
 loop-again : tie.Need-loop-again Inv-loop μ-loop
 loop-again c = (omega arith, turn _ 3 (λ _. refl) _ _ _ (c .before .before .before .before .before .before .loop .k) (c .before .before .put-vec .ensures) (c .before .before .before .before .before .before .loop .inv .1) (omega arith))
 
@@ -42,7 +39,7 @@ put-eight-spec =
     (λ c. search needs)
     (λ c. search needs)
     (λ c. search needs)
-    put-vec-requires
+    (λ c κs. omega (arith, kept _ _ _ (c .before .before .before .loop .inv .1)))
     (λ c. search needs)
     (λ c. search needs)
     loop-again

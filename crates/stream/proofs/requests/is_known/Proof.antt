@@ -3,9 +3,6 @@ use borrow.Author.Needs.{needs}
 use Rattle.stream.proofs.requests.is_known.Statement.{statement}
 use Rattle.stream.proofs.requests.is_known.Tie as tie
 
-returns-2 : tie.Need-returns-2
-returns-2 c = rw (ne-eqb _ _ (c .before .before .if1 .left), eq-eqb _ _ (c .if2 .taken))
-
 returns-3 : tie.Need-returns-3
 returns-3 c = rw (ne-eqb _ _ (c .before .before .before .before .before .before .before .if1 .left), ne-eqb _ _ (c .before .before .before .before .before .if2 .left), eq-eqb _ _ (c .before .before .before .if3 .taken))
 
@@ -13,4 +10,12 @@ returns-4 : tie.Need-returns-4
 returns-4 c = rw (ne-eqb _ _ (c .before .before .before .before .if1 .left), ne-eqb _ _ (c .before .before .if2 .left), ne-eqb _ _ (c .if3 .left))
 
 pub is-known-spec : {M : Type 1} → statement M
-is-known-spec = tie.close (tie.spec (λ c. rw (eq-eqb _ _ (c .if1 .taken))) returns-2 (λ c. search needs) (λ c. search needs) returns-3 returns-4)
+is-known-spec =
+    tie.close
+    (tie.spec
+    (λ c. rw (eq-eqb _ _ (c .if1 .taken)))
+    (λ c. rw (ne-eqb _ _ (c .before .before .if1 .left), eq-eqb _ _ (c .if2 .taken)))
+    (λ c. search needs)
+    (λ c. search needs)
+    returns-3
+    returns-4)
