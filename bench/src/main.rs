@@ -48,9 +48,19 @@ fn proved_plan(job: &[u8], b: &mut Buffers) -> [u32; 9] {
     answer
 }
 
-/// A chain of `present` residues of `each` atoms, C-alpha first and then O, with `segments` helices and sheets spread over it. Serials
-/// ascend, or all but the last atom's do, which is then 0.
-fn job(residues: u16, present: u16, each: u32, segments: u16, ascend: bool) -> Vec<u8> {
+/// How the serials of a job's atoms go.
+#[derive(Clone, Copy)]
+enum Serials {
+    Ascend,
+    /// All but the last atom's do, which is 0.
+    LastIsLow,
+    /// The second half of the atoms stands before the first.
+    TwoRuns,
+    Shuffled,
+}
+
+/// A chain of `present` residues of `each` atoms, C-alpha first and then O, with `segments` helices and sheets spread over it.
+fn job(residues: u16, present: u16, each: u32, segments: u16, serials: Serials) -> Vec<u8> {
     let mut atoms = Vec::new();
     for r in 0..present {
         let t = r as f64;
@@ -66,8 +76,12 @@ fn job(residues: u16, present: u16, each: u32, segments: u16, ascend: bool) -> V
             });
         }
     }
-    if !ascend {
-        atoms.last_mut().expect("an atom").serial = 0;
+    let n = atoms.len();
+    match serials {
+        Serials::Ascend => {}
+        Serials::LastIsLow => atoms.last_mut().expect("an atom").serial = 0,
+        Serials::TwoRuns => atoms.rotate_left(n / 2),
+        Serials::Shuffled => (0..n).for_each(|i| atoms.swap(i, (i * 7919 + 13) % n)),
     }
     let step = (present as u32 / segments.max(1) as u32).max(1);
     let length = (step * 2 / 3).max(2);
@@ -103,7 +117,7 @@ fn fastest<const N: usize>(mut runs: [&mut dyn FnMut(); N]) -> [f64; N] {
     best
 }
 
-fn row(residues: u16, each: u32, segments: u16, ascend: bool) {
+fn row(residues: u16, each: u32, segments: u16, serials: Serials) {
     let room = |v: usize, t: usize, k: usize| Buffers {
         positions: vec![0.0; 3 * v],
         normals: vec![0.0; 3 * v],
@@ -119,7 +133,7 @@ fn row(residues: u16, each: u32, segments: u16, ascend: bool) {
     let (present, bytes, plan) = (0..residues)
         .step_by(64)
         .map(|less| residues - less)
-        .map(|present| (present, job(residues, present, each, segments, ascend)))
+        .map(|present| (present, job(residues, present, each, segments, serials)))
         .map(|(present, bytes)| (present, proved_plan(&bytes, &mut none), bytes))
         .find(|(_, plan, _)| plan[0] == 0)
         .map(|(present, plan, bytes)| (present, bytes, plan))
@@ -157,22 +171,28 @@ fn main() {
         "R", "present", "S", "V", "rust", "bytes", "proved", "plan", "to rust", "to bytes", "plan/build"
     );
     for segments in [0, 20, 2000] {
-        row(300, 8, segments, true);
+        row(300, 8, segments, Serials::Ascend);
     }
     for segments in [0, 20, 2000] {
-        row(16_384, 3, segments, true);
+        row(16_384, 3, segments, Serials::Ascend);
     }
     println!("how the cost grows with R, S = 0, and with S, R = 2000");
     for residues in [75, 300, 1200, 4800] {
-        row(residues, 3, 0, true);
+        row(residues, 3, 0, Serials::Ascend);
     }
     for segments in [1, 10, 100, 1000] {
-        row(2000, 3, segments, true);
+        row(2000, 3, segments, Serials::Ascend);
     }
-    println!("where serials do not ascend");
-    for (residues, each) in [(300, 8), (16_384, 3)] {
-        for segments in [20, 2000] {
-            row(residues, each, segments, false);
+    for (words, serials) in [
+        ("where the last atom's serial is low", Serials::LastIsLow),
+        ("where the atoms stand in two runs", Serials::TwoRuns),
+        ("where they are shuffled", Serials::Shuffled),
+    ] {
+        println!("{words}");
+        for (residues, each) in [(300, 8), (16_384, 3)] {
+            for segments in [20, 2000] {
+                row(residues, each, segments, serials);
+            }
         }
     }
 }

@@ -12,6 +12,7 @@ use lib.Dec.{eqb}
 use borrow.Author.Tests.{eqb-true, eqb-false}
 use Rattle.scratch.specs.Scratch.{Filled, Both, Kept}
 use native.Mathlib.Numerals.{add-one}
+use Rattle.lists.proofs.Bools.{clash}
 
 -- a store at r₀'s place makes the table that of g, where g differs from f at r₀ alone
 pub fill-set : (f g : ℕ → ℕ) (base n : ℕ) (t₀ t : List ℕ) (r₀ v : ℕ) → Filled f base n t₀ t → r₀ < n → base + n ≤ length t₀
@@ -81,13 +82,6 @@ fill-empty f base t = record { size = refl; entry = λ r h. absurd (omega arith)
 pub kept-refl : (lo hi : ℕ) (t : List ℕ) → Kept lo hi t t
 kept-refl lo hi t = record { size = refl; before = λ j h. refl; after = λ j h. refl }
 
-pub kept-trans : (lo hi : ℕ) (t u v : List ℕ) → Kept lo hi t u → Kept lo hi u v → Kept lo hi t v
-kept-trans lo hi t u v a b = record {
-  size = b .size ∙ a .size;
-  before = λ j h. b .before j h ∙ a .before j h;
-  after = λ j h. b .after j h ∙ a .after j h;
-}
-
 -- a table that is filled anew
 pub fill-again : (f g : ℕ → ℕ) (base n : ℕ) (t₀ t₁ t₂ : List ℕ) → Filled f base n t₀ t₁ → Filled g base n t₁ t₂ → Filled g base n t₀ t₂
 fill-again f g base n t₀ t₁ t₂ F G = record {
@@ -97,44 +91,37 @@ fill-again f g base n t₀ t₁ t₂ F G = record {
   after = λ j l. G .after j l ∙ F .after j l;
 }
 
--- two tables, of which the first is filled anew, or the second
-module _ (f g : ℕ → ℕ) (a o n : ℕ) (t₀ t t′ : List ℕ) (apart : a + n ≤ o) (B : Both f g a o n t₀ t) where
-  pub both-first : (f′ : ℕ → ℕ) → Filled f′ a n t t′ → Both f′ g a o n t₀ t′
-  both-first f′ F = record {
-    size = F .size ∙ B .size;
-    first = F .entry;
-    second = λ r h. F .after (o + r) (omega arith) ∙ B .second r h;
-    before = λ j h. F .before j h ∙ B .before j h;
-    after = λ j h. F .after j (omega arith) ∙ B .after j h;
-  }
+-- the tables as they stand, and one step after another
+pub both-now : (full : Bool) (f g : ℕ → ℕ) (a o n : ℕ) (t₀ t : List ℕ) → Both full f g a o n t₀ t → Both full f g a o n t t
+both-now full f g a o n t₀ t B = record { size = refl; first = B .first; second = B .second; before = λ j h. refl; after = λ j h. refl }
 
-  pub both-second : (g′ : ℕ → ℕ) → Filled g′ o n t t′ → Both f g′ a o n t₀ t′
-  both-second g′ F = record {
-    size = F .size ∙ B .size;
-    first = λ r h. F .before (a + r) (omega arith) ∙ B .first r h;
-    second = F .entry;
-    before = λ j h. F .before j (omega arith) ∙ B .before j h;
-    after = λ j h. F .after j h ∙ B .after j h;
-  }
+pub both-again : (full : Bool) (f g f′ g′ : ℕ → ℕ) (a o n : ℕ) (t₀ t t′ : List ℕ) → Both full f g a o n t₀ t → Both full f′ g′ a o n t t′ → Both full f′ g′ a o n t₀ t′
+both-again full f g f′ g′ a o n t₀ t t′ B C = record {
+  size = C .size ∙ B .size;
+  first = C .first;
+  second = C .second;
+  before = λ j h. C .before j h ∙ B .before j h;
+  after = λ j h. C .after j h ∙ B .after j h;
+}
 
-pub both-start : (f g : ℕ → ℕ) (a o n : ℕ) (t : List ℕ) → ((r : ℕ) → r < n → getD t (a + r) 0 ≡ f r) → ((r : ℕ) → r < n → getD t (o + r) 0 ≡ g r) → Both f g a o n t t
-both-start f g a o n t u v = record { size = refl; first = u; second = v; before = λ j h. refl; after = λ j h. refl }
-
-pub both-same : (f g f′ g′ : ℕ → ℕ) (a o n : ℕ) (t₀ t : List ℕ) → Both f g a o n t₀ t → ((r : ℕ) → r < n → f′ r ≡ f r) → ((r : ℕ) → r < n → g′ r ≡ g r) → Both f′ g′ a o n t₀ t
-both-same f g f′ g′ a o n t₀ t B u v = record {
+pub both-same : (full : Bool) (f g f′ g′ : ℕ → ℕ) (a o n : ℕ) (t₀ t : List ℕ) → Both full f g a o n t₀ t → ((r : ℕ) → r < n → f′ r ≡ f r) → ((r : ℕ) → r < n → g′ r ≡ g r) → Both full f′ g′ a o n t₀ t
+both-same full f g f′ g′ a o n t₀ t B u v = record {
   size = B .size;
   first = λ r h. B .first r h ∙ sym (u r h);
-  second = λ r h. B .second r h ∙ sym (v r h);
+  second = λ e r h. B .second e r h ∙ sym (v r h);
   before = B .before;
   after = B .after;
 }
 
--- two tables that were cleared and then filled
-pub both-cleared : (f g : ℕ → ℕ) (a o n : ℕ) (t₀ t₁ t₂ t₃ : List ℕ) → a ≤ o → Filled (λ r. 0) a n t₀ t₁ → Filled (λ r. 0) o n t₁ t₂ → Both f g a o n t₂ t₃ → Both f g a o n t₀ t₃
-both-cleared f g a o n t₀ t₁ t₂ t₃ le F G B = record {
-  size = B .size ∙ G .size ∙ F .size;
-  first = B .first;
-  second = B .second;
-  before = λ j h. B .before j h ∙ G .before j (omega arith) ∙ F .before j h;
-  after = λ j h. B .after j h ∙ G .after j h ∙ F .after j (omega arith);
+-- tables that were cleared: the first alone, or both
+pub both-one : (full : Bool) (f g : ℕ → ℕ) (a o n : ℕ) (t₀ t : List ℕ) → a + n ≤ o → full ≡ false → Filled f a n t₀ t → Both full f g a o n t₀ t
+both-one full f g a o n t₀ t apart q F = record { size = F .size; first = F .entry; second = λ e. clash e q; before = F .before; after = λ j h. F .after j (omega arith) }
+
+pub both-two : (full : Bool) (f g : ℕ → ℕ) (a o n : ℕ) (t₀ t₁ t₂ : List ℕ) → a + n ≤ o → Filled f a n t₀ t₁ → Filled g o n t₁ t₂ → Both full f g a o n t₀ t₂
+both-two full f g a o n t₀ t₁ t₂ apart F G = record {
+  size = G .size ∙ F .size;
+  first = λ r h. G .before (a + r) (omega arith) ∙ F .entry r h;
+  second = λ _. G .entry;
+  before = λ j h. G .before j (omega arith) ∙ F .before j h;
+  after = λ j h. G .after j h ∙ F .after j (omega arith);
 }

@@ -1,18 +1,18 @@
 -- Laws of ascending serials, and of the parts of the atoms and of the residues that a segment reaches. Assumes nothing.
 use Prim.Native.Nat.{ℕ, zero, suc, _+_, _-_, _<_, _≤_}
-use mathlib.Core.Bool.{Bool, true, false, and-false}
+use mathlib.Core.Bool.{Bool, true, false}
 use mathlib.Core.Path.{_≡_, refl, sym, _∙_, ap, subst}
 use mathlib.Core.Logic.{⊎-elim}
 use native.Mathlib.Nat.{eq-or-lt-of-le, le-of-suc-le-suc}
 use native.Mathlib.Numerals.{add-one}
 use native.Mathlib.Omega.{arith}
 use lib.Dec.{leb, ltb}
-use borrow.Author.Tests.{leb-true, le-leb, lt-leb, ltb-true, ltb-false}
-use Rattle.stretch.specs.Stretch.{inside, ascends, sorted, Splits, In, Reaches, Widened}
+use borrow.Author.Tests.{leb-true, le-leb, ltb-true, ltb-false}
+use Rattle.stretch.specs.Stretch.{inside, ascends, Splits, Outside, In, Reaches, Spans, Met, ranged, Widened}
 use Rattle.protein.specs.Job.{Job}
 use Rattle.stretch.specs.declared.Range.{Range}
 use Rattle.stretch.specs.declared.Part.{Part}
-use Rattle.lists.proofs.Bools.{and-left, and-right}
+use Rattle.lists.proofs.Bools.{clash, and-left, and-right}
 
 pub ascends-none : (f : ℕ → ℕ) → ascends f 0 ≡ true
 unfolding ascends
@@ -21,16 +21,6 @@ ascends-none f = refl
 pub ascends-more : (f : ℕ → ℕ) (n : ℕ) → ascends f n ≡ true → f n ≤ f (n + 1) → ascends f (n + 1) ≡ true
 unfolding ascends
 ascends-more f n e l = let z : f n ≤ f (suc n) = rw add-one at l in rw (add-one, e, le-leb (f n) (f (suc n)) z)
-
--- one step down is enough
-pub ascends-not : (f : ℕ → ℕ) (k n : ℕ) → f (k + 1) < f k → k < n → ascends f n ≡ false
-unfolding ascends
-ascends-not f k zero d l = absurd (omega arith)
-ascends-not f k (suc n) d l =
-    ⊎-elim
-    (λ e. let q : k ≡ n = e in let z : f (suc n) < f n = rw (q, add-one) at d in rw (lt-leb (f n) (f (suc n)) z, and-false))
-    (λ m. rw (ascends-not f k n d m))
-    (eq-or-lt-of-le (le-of-suc-le-suc l))
 
 pub ascends-le : (f : ℕ → ℕ) (n i j : ℕ) → ascends f n ≡ true → i ≤ j → j ≤ n → f i ≤ f j
 unfolding ascends
@@ -55,10 +45,6 @@ module _ (f : ℕ → ℕ) (n v : ℕ) (up : ascends f (n - 1) ≡ true) where
   pub above-more : (mid : ℕ) → v ≤ f mid → (a : ℕ) → mid ≤ a → a < n → v ≤ f a
   above-more mid e a h l = let z = ascends-le f (n - 1) mid a up h (omega arith) in omega arith
 
-pub sorted-ascends : (J : Job) → sorted J ≡ true → ascends (J .serial) (J .atoms - 1) ≡ true
-unfolding sorted
-sorted-ascends J e = e
-
 pub inside-start : (g : Range) (v : ℕ) → inside g v ≡ true → g .start ≤ v
 unfolding inside
 inside-start g v e = leb-true _ _ (and-left (leb (g .start) v) _ e)
@@ -67,22 +53,71 @@ pub inside-stop : (g : Range) (v : ℕ) → inside g v ≡ true → v ≤ g .sto
 unfolding inside
 inside-stop g v e = leb-true _ _ (and-right (leb (g .start) v) _ e)
 
--- from the first serial that is not below the start up to the first that is above the stop
-pub reaches-between : (J : Job) (g : Range) (lo hi : ℕ) → Splits (J .serial) (J .atoms) (g .start) lo → Splits (J .serial) (J .atoms) (g .stop + 1) hi
-    → Reaches J g (record { from = lo; to = hi })
-reaches-between J g lo hi L H = record {
-  from = L .few;
-  to = H .few;
-  all = λ a l e. (start a l e (ltb a lo) refl, stop a l e (ltb a hi) refl);
-}
+-- of the first n atoms, which ascend, those of the range stand from the first serial that is not below its start up to the first that is above its stop
+pub between : (J : Job) (g : Range) (n lo hi : ℕ) → Splits (J .serial) n (g .start) lo → Splits (J .serial) n (g .stop + 1) hi
+    → (a : ℕ) → a < n → inside g (J .serial a) ≡ true → (lo ≤ a) × (a < hi)
+between J g n lo hi L H a l e = (start (ltb a lo) refl, stop (ltb a hi) refl)
   where
-    start : (a : ℕ) → a < J .atoms → inside g (J .serial a) ≡ true → (b : Bool) → ltb a lo ≡ b → lo ≤ a
-    start a l e true t = absurd (omega (arith, L .below a (ltb-true a lo t), inside-start g _ e))
-    start a l e false t = ltb-false a lo t
+    start : (b : Bool) → ltb a lo ≡ b → lo ≤ a
+    start true t = absurd (omega (arith, L .below a (ltb-true a lo t), inside-start g _ e))
+    start false t = ltb-false a lo t
 
-    stop : (a : ℕ) → a < J .atoms → inside g (J .serial a) ≡ true → (b : Bool) → ltb a hi ≡ b → a < hi
-    stop a l e true t = ltb-true a hi t
-    stop a l e false t = absurd (omega (arith, H .above a (ltb-false a hi t) l, inside-stop g _ e))
+    stop : (b : Bool) → ltb a hi ≡ b → a < hi
+    stop true t = ltb-true a hi t
+    stop false t = absurd (omega (arith, H .above a (ltb-false a hi t) l, inside-stop g _ e))
+
+-- an atom of the range stands past a part that has none
+pub past-outside : (J : Job) (g : Range) (from to a : ℕ) → Outside J g from to → from ≤ a → inside g (J .serial a) ≡ true → to ≤ a
+past-outside J g from to a O l e = go (ltb a to) refl
+  where
+    go : (b : Bool) → ltb a to ≡ b → to ≤ a
+    go true t = clash e (O a l (ltb-true a to t))
+    go false t = ltb-false a to t
+
+pub before-outside : (J : Job) (g : Range) (from to a : ℕ) → Outside J g from to → a < to → inside g (J .serial a) ≡ true → a < from
+before-outside J g from to a O l e = go (ltb a from) refl
+  where
+    go : (b : Bool) → ltb a from ≡ b → a < from
+    go true t = ltb-true a from t
+    go false t = clash e (O a (ltb-false a from t) l)
+
+-- what is known of the atoms that ascend, and of those behind them
+pub reaches-by : (J : Job) (g : Range) (p : Part) (n : ℕ) → p .from ≤ J .atoms → p .to ≤ J .atoms → ((a : ℕ) → a < n → inside g (J .serial a) ≡ true → In p a)
+    → ((a : ℕ) → n ≤ a → a < J .atoms → inside g (J .serial a) ≡ true → In p a) → Reaches J g p
+reaches-by J g p n f t front behind = record { from = f; to = t; all = λ a l e. go a l e (ltb a n) refl }
+  where
+    go : (a : ℕ) → a < J .atoms → inside g (J .serial a) ≡ true → (b : Bool) → ltb a n ≡ b → In p a
+    go a l e true q = front a (ltb-true a n q) e
+    go a l e false q = behind a (ltb-false a n q) l e
+
+module _ (J : Job) (g : Range) (n lo hi end : ℕ) (few : n ≤ J .atoms) (L : Splits (J .serial) n (g .start) lo) (H : Splits (J .serial) n (g .stop + 1) hi)
+    (last : end ≤ J .atoms) (O : Outside J g end (J .atoms)) where
+  -- none behind those that ascend
+  pub reaches-front : end ≡ n → Reaches J g (record { from = lo; to = hi })
+  reaches-front q =
+      reaches-by J g _ n (omega (arith, L .few)) (omega (arith, H .few)) (λ a l e. between J g n lo hi L H a l e)
+      (λ a l m e. absurd (omega (arith, before-outside J g end (J .atoms) a O m e)))
+
+  -- some on both sides
+  pub reaches-both : n ≤ end → lo < hi → Reaches J g (record { from = lo; to = end })
+  reaches-both q w =
+      reaches-by J g _ n (omega (arith, L .few)) last (λ a l e. (between J g n lo hi L H a l e .0, omega arith))
+      (λ a l m e. (omega (arith, L .few), before-outside J g end (J .atoms) a O m e))
+
+  -- none that ascend
+  pub reaches-behind : (from : ℕ) → hi ≤ lo → from ≤ end → Outside J g n from → Reaches J g (record { from = from; to = end })
+  reaches-behind from w f F =
+      reaches-by J g _ n (omega arith) last (λ a l e. let z = between J g n lo hi L H a l e in absurd (omega (arith, z .0, z .1)))
+      (λ a l m e. (past-outside J g n from a F l e, before-outside J g end (J .atoms) a O m e))
+
+-- one atom more of which none is in the range, in front and behind
+pub outside-more : (J : Job) (g : Range) (from a : ℕ) → Outside J g from a → inside g (J .serial a) ≡ false → Outside J g from (a + 1)
+outside-more J g from a O e k l m =
+    ⊎-elim (λ q. subst (λ (i : ℕ). inside g (J .serial i) ≡ false) (sym q) e) (λ z. O k l z) (eq-or-lt-of-le (le-of-suc-le-suc (rw add-one at m)))
+
+pub outside-less : (J : Job) (g : Range) (a to : ℕ) → 0 < a → Outside J g a to → inside g (J .serial (a - 1)) ≡ false → Outside J g (a - 1) to
+outside-less J g a to p O e k l m =
+    ⊎-elim (λ q. subst (λ (i : ℕ). inside g (J .serial i) ≡ false) q e) (λ z. O k (omega arith) m) (eq-or-lt-of-le l)
 
 -- one turn of `span`
 pub spans-turn : (J : Job) (n lo a r : ℕ) (p q : Part) → r ≡ J .residue a → Widened p n r q
@@ -92,3 +127,56 @@ spans-turn J n lo a r p q e W all k l m few =
     (λ z. let y : k ≡ a = z in subst (λ (i : ℕ). In q i) (e ∙ ap (J .residue) (sym y)) (W .has (subst (λ (i : ℕ). i < n) (ap (J .residue) y ∙ sym e) few)))
     (λ z. W .keeps _ (all k l z few))
     (eq-or-lt-of-le (le-of-suc-le-suc (rw add-one at m)))
+
+-- ---- what stands outside a range, and which residues its atoms have
+
+pub outside-join : (J : Job) (g : Range) (a b c : ℕ) → Outside J g a b → Outside J g b c → Outside J g a c
+outside-join J g a b c O P k l m = go (ltb k b) refl
+  where
+    go : (t : Bool) → ltb k b ≡ t → inside g (J .serial k) ≡ false
+    go true e = O k l (ltb-true k b e)
+    go false e = P k (ltb-false k b e) m
+
+inside-out : (J : Job) (g : Range) (k : ℕ) → (inside g (J .serial k) ≡ true → ⊥) → inside g (J .serial k) ≡ false
+inside-out J g k h = go (inside g (J .serial k)) refl
+  where
+    go : (t : Bool) → inside g (J .serial k) ≡ t → inside g (J .serial k) ≡ false
+    go true e = absurd (h e)
+    go false e = e
+
+pub outside-before : (J : Job) (g : Range) (p : Part) → Reaches J g p → Outside J g 0 (p .from)
+outside-before J g p R k l m = inside-out J g k (λ e. omega (arith, R .from, R .all k (omega (arith, R .from)) e .0))
+
+pub outside-after : (J : Job) (g : Range) (p : Part) → Reaches J g p → Outside J g (p .to) (J .atoms)
+outside-after J g p R k l m = inside-out J g k (λ e. omega (arith, R .all k m e .1))
+
+-- the residues of a part of the atoms, in which those of the range stand
+pub met-span : (J : Job) (g : Range) (p q : Part) → Reaches J g p → Spans J p q → Met J (ranged J g) (J .atoms) q
+met-span J g p q R S k l e few = S .all k (R .all k l e) few
+
+-- nothing is met before the first atom that is taken, nor from one to the next
+pub met-none : (J : Job) (t : ℕ → Bool) (a : ℕ) (q : Part) → ((k : ℕ) → k < a → t k ≡ false) → Met J t a q
+met-none J t a q none k l e few = clash e (none k l)
+
+pub met-on : (J : Job) (t : ℕ → Bool) (a b : ℕ) (q : Part) → ((k : ℕ) → a ≤ k → k < b → t k ≡ false) → Met J t a q → Met J t b q
+met-on J t a b q none M k l e few = go (ltb k a) refl
+  where
+    go : (c : Bool) → ltb k a ≡ c → In q (J .residue k)
+    go true z = M k (ltb-true k a z) e few
+    go false z = clash e (none k (ltb-false k a z) l)
+
+-- atom a with its residue
+pub met-more : (J : Job) (t : ℕ → Bool) (a : ℕ) (p q : Part) → Widened p (J .residues) (J .residue a) q → Met J t a p → Met J t (a + 1) q
+met-more J t a p q W M k l e few =
+    ⊎-elim
+    (λ y. let x : k ≡ a = y in subst (λ (i : ℕ). In q i) (ap (J .residue) (sym x)) (W .has (subst (λ (i : ℕ). i < J .residues) (ap (J .residue) x) few)))
+    (λ y. W .keeps _ (M k y e few))
+    (eq-or-lt-of-le (le-of-suc-le-suc (rw add-one at l)))
+
+-- one that has none, or is not taken
+pub met-same : (J : Job) (t : ℕ → Bool) (a : ℕ) (p : Part) → (t a ≡ true → J .residue a < J .residues → ⊥) → Met J t a p → Met J t (a + 1) p
+met-same J t a p h M k l e few =
+    ⊎-elim
+    (λ y. let x : k ≡ a = y in absurd (h (ap t (sym x) ∙ e) (subst (λ (i : ℕ). i < J .residues) (ap (J .residue) x) few)))
+    (λ y. M k y e few)
+    (eq-or-lt-of-le (le-of-suc-le-suc (rw add-one at l)))

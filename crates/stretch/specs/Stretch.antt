@@ -1,6 +1,6 @@
 -- Where a segment's atoms stand in the job: no part of 01's list, only of how the tables find it without reading every atom for every segment.
 use Prim.Native.Nat.{ℕ, zero, suc, _-_, _<_, _≤_}
-use mathlib.Core.Bool.{Bool, true, _&&_}
+use mathlib.Core.Bool.{Bool, true, false, _&&_}
 use mathlib.Core.Path.{_≡_}
 use lib.Dec.{leb}
 use Rattle.protein.specs.Job.{Job}
@@ -12,9 +12,10 @@ unfoldable pub ascends : (ℕ → ℕ) → ℕ → Bool
 ascends f zero = true
 ascends f (suc n) = ascends f n && leb (f n) (f (suc n))
 
--- no atom's serial is below the serial of the atom before it
-unfoldable pub sorted : Job → Bool
-sorted J = ascends (J .serial) (J .atoms - 1)
+-- of the first n atoms none has a serial below that of the atom before it
+pub record Ascending (J : Job) (n : ℕ) : Type 0 where
+  pub few : n ≤ J .atoms
+  pub up : ascends (J .serial) (n - 1) ≡ true
 
 -- the first r of n numbers are below v, and the others are not
 pub record Splits (f : ℕ → ℕ) (n v r : ℕ) : Type 0 where
@@ -25,6 +26,10 @@ pub record Splits (f : ℕ → ℕ) (n v r : ℕ) : Type 0 where
 -- 'serials from start to end inclusive'
 unfoldable pub inside : Range → ℕ → Bool
 inside g v = leb (g .start) v && leb v (g .stop)
+
+-- no atom from one number up to another has a serial in the range
+abbrev pub Outside : Job → Range → ℕ → ℕ → Type 0
+Outside J g from to = (a : ℕ) → from ≤ a → a < to → inside g (J .serial a) ≡ false
 
 -- k is one of the numbers of the part
 abbrev pub In : Part → ℕ → Type 0
@@ -42,8 +47,17 @@ pub record Spans (J : Job) (p q : Part) : Type 0 where
   pub to : q .to ≤ J .residues
   pub all : (a : ℕ) → In p a → J .residue a < J .residues → In q (J .residue a)
 
--- q has every number of p, and r if that is below n; all below n
+-- the residue of every atom below a that a test takes stands in the part q, if it has one
+abbrev pub Met : Job → (ℕ → Bool) → ℕ → Part → Type 0
+Met J t a q = (k : ℕ) → k < a → t k ≡ true → J .residue k < J .residues → In q (J .residue k)
+
+-- the atoms in the range
+abbrev pub ranged : Job → Range → ℕ → Bool
+ranged J g k = inside g (J .serial k)
+
+-- q has every number of p, and r if that is below n; its ends are those of p, or r
 pub record Widened (p : Part) (n r : ℕ) (q : Part) : Type 0 where
-  pub to : q .to ≤ n
+  pub low : (m : ℕ) → m ≤ p .from → (r < n → m ≤ r) → m ≤ q .from
+  pub high : (m : ℕ) → p .to ≤ m → (r < n → r < m) → q .to ≤ m
   pub keeps : (k : ℕ) → In p k → In q k
   pub has : r < n → In q r

@@ -5,7 +5,7 @@ ghost use mathlib.Core.Bool.{true};
 ghost use Prim.Native.Nat.{_+_, _≤_, _<_};
 ghost use Rattle.protein.specs.Layout.{Whole};
 ghost use Rattle.protein.specs.Job.{jobOf};
-ghost use Rattle.stretch.specs.Stretch.{sorted, Splits, Reaches, Spans, Widened};
+ghost use Rattle.stretch.specs.Stretch.{Ascending, inside, ranged, Splits, Outside, Reaches, Spans, Widened};
 
 // Serial numbers from start to stop, both included.
 pub struct Range {
@@ -19,29 +19,39 @@ pub struct Part {
     pub to: usize,
 }
 
-// Whether no atom's serial is below the serial of the atom before it.
-pub fn is_sorted(b: &[u8], h: Head) -> bool
+// Whether a serial is in a range.
+pub fn is_inside(g: Range, v: usize) -> bool
+    ensures { λ r. ⌜ r ≡ inside g v ⌝ }
+{
+    if v < g.start {
+        return false;
+    }
+    v <= g.stop
+}
+
+// How many atoms, from the first on, have serials that never go down.
+pub fn count_ascending(b: &[u8], h: Head) -> usize
     requires { ⌜ Whole (now b) h ⌝ }
-    ensures { λ r. ⌜ r ≡ sorted (jobOf (now (b .entry)) h) ⌝ }
+    ensures { λ r. ⌜ Ascending (jobOf (now (b .entry)) h) r ⌝ }
 {
     let n = h.atoms as usize;
     let mut a = 0;
     while a + 1 < n {
         if protein::serial(b, h, a + 1) < protein::serial(b, h, a) {
-            return false;
+            return a + 1;
         }
         a += 1;
     }
-    true
+    n
 }
 
-// How many atoms have a serial below v, where serials ascend.
-fn count_below(b: &[u8], h: Head, v: usize) -> usize
-    requires { ⌜ Whole (now b) h × (sorted (jobOf (now b) h) ≡ true) ⌝ }
-    ensures { λ r. ⌜ Splits (jobOf (now (b .entry)) h .serial) (h .atoms) v r ⌝ }
+// How many of the atoms whose serials ascend have one below v.
+fn count_below(b: &[u8], h: Head, ascending: usize, v: usize) -> usize
+    requires { ⌜ Whole (now b) h × Ascending (jobOf (now b) h) ascending ⌝ }
+    ensures { λ r. ⌜ Splits (jobOf (now (b .entry)) h .serial) ascending v r ⌝ }
 {
     let mut lo = 0;
-    let mut hi = h.atoms as usize;
+    let mut hi = ascending;
     while lo < hi {
         let mid = lo + (hi - lo) / 2;
         if protein::serial(b, h, mid) < v {
@@ -53,25 +63,58 @@ fn count_below(b: &[u8], h: Head, v: usize) -> usize
     lo
 }
 
-// A part of the atoms in which every atom of the range stands: all atoms, where serials do not ascend.
-pub fn stretch(b: &[u8], h: Head, ascend: bool, g: Range) -> Part
-    requires { ⌜ Whole (now b) h × (ascend ≡ sorted (jobOf (now b) h)) × (g .stop < 4294967296) ⌝ }
-    ensures { λ r. ⌜ Reaches (jobOf (now (b .entry)) h) g r ⌝ }
+// The first atom from one number up to another that is in the range; the second number where there is none.
+pub fn first_inside(b: &[u8], h: Head, g: Range, from: usize, to: usize) -> usize
+    requires { ⌜ Whole (now b) h × (to ≤ h .atoms) ⌝ }
+    ensures { λ r. ⌜ (r ≤ to) × (from ≤ to → from ≤ r) × Outside (jobOf (now (b .entry)) h) g from r
+        × (r < to → ranged (jobOf (now (b .entry)) h) g r ≡ true) ⌝ }
 {
-    if !ascend {
-        return Part {
-            from: 0,
-            to: h.atoms as usize,
-        };
+    let mut a = from;
+    while a < to {
+        if is_inside(g, protein::serial(b, h, a)) {
+            return a;
+        }
+        a += 1;
     }
-    Part {
-        from: count_below(b, h, g.start),
-        to: count_below(b, h, g.stop + 1),
-    }
+    to
 }
 
-// The part of the residues, with r in it if that is below n.
-fn widened(p: Part, n: usize, r: usize) -> Part
+// One more than the last atom from a number on that is in the range; that number where there is none.
+fn past_inside(b: &[u8], h: Head, g: Range, from: usize) -> usize
+    requires { ⌜ Whole (now b) h × (from ≤ h .atoms) ⌝ }
+    ensures { λ r. ⌜ (from ≤ r) × (r ≤ h .atoms) × Outside (jobOf (now (b .entry)) h) g r (h .atoms) ⌝ }
+{
+    let mut a = h.atoms as usize;
+    while from < a {
+        if is_inside(g, protein::serial(b, h, a - 1)) {
+            return a;
+        }
+        a -= 1;
+    }
+    from
+}
+
+// A part of the atoms in which every atom of the range stands. Among those whose serials ascend both ends are found by halving; the others are read, from the
+// last one down to one of the range, and where the range has none that ascend also from the first one on.
+pub fn stretch(b: &[u8], h: Head, ascending: usize, g: Range) -> Part
+    requires { ⌜ Whole (now b) h × Ascending (jobOf (now b) h) ascending × (g .stop < 4294967296) ⌝ }
+    ensures { λ r. ⌜ Reaches (jobOf (now (b .entry)) h) g r ⌝ }
+{
+    let lo = count_below(b, h, ascending, g.start);
+    let hi = count_below(b, h, ascending, g.stop + 1);
+    let end = past_inside(b, h, g, ascending);
+    if end == ascending {
+        return Part { from: lo, to: hi };
+    }
+    if lo < hi {
+        return Part { from: lo, to: end };
+    }
+    let from = first_inside(b, h, g, ascending, end);
+    Part { from, to: end }
+}
+
+// The part of the residues, with r in it if that is below n, and no more than that takes.
+pub fn widened(p: Part, n: usize, r: usize) -> Part
     requires { ⌜ (p .to ≤ n) × (n ≤ 65536) ⌝ }
     ensures { λ q. ⌜ Widened p n r q ⌝ }
 {
@@ -93,16 +136,16 @@ fn widened(p: Part, n: usize, r: usize) -> Part
     p
 }
 
-// A part of the residues in which those of a part of the atoms stand: all residues, where serials do not ascend and the part is long.
-pub fn span(b: &[u8], h: Head, ascend: bool, atoms: Part) -> Part
-    requires { ⌜ Whole (now b) h × (atoms .to ≤ h .atoms) ⌝ }
+// A part of the residues in which those of a part of the atoms stand: all residues, where they are fewer than the atoms that would be read.
+pub fn span(b: &[u8], h: Head, atoms: Part) -> Part
+    requires { ⌜ Whole (now b) h × (atoms .from ≤ h .atoms) × (atoms .to ≤ h .atoms) ⌝ }
     ensures { λ r. ⌜ Spans (jobOf (now (b .entry)) h) atoms r ⌝ }
 {
     let n = h.residues as usize;
-    if !ascend {
+    let end = atoms.to;
+    if atoms.from + n < end {
         return Part { from: 0, to: n };
     }
-    let end = atoms.to;
     let mut p = Part { from: n, to: 0 };
     let mut a = atoms.from;
     while a < end {

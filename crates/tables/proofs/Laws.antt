@@ -1,6 +1,6 @@
 -- Laws of `Filled`, the tables of the scratch, and of `last`, one turn of a loop at a time. Assumes nothing.
 use Prim.Native.Nat.{ℕ, zero, suc, _+_, _-_, _<_, _≤_}
-use mathlib.Core.Bool.{Bool, true, false, cond, and-false}
+use mathlib.Core.Bool.{Bool, true, false, and-false}
 use mathlib.Core.List.{List}
 use mathlib.Core.Path.{_≡_, refl, sym, _∙_, ap}
 use mathlib.Core.Logic.{⊎-elim}
@@ -11,7 +11,7 @@ use lib.ListN.{length, getD, set, length-set}
 use lib.Seq.{getD-set-same, getD-set-other}
 use lib.Dec.{eqb}
 use borrow.Author.Tests.{eq-eqb, ne-eqb, eqb-true, eqb-false, not-true, not-false}
-use Rattle.lists.specs.Search.{first, last, orElse}
+use Rattle.lists.specs.Search.{first, last}
 use Rattle.tables.specs.Table.{keeps}
 use Rattle.scratch.specs.Scratch.{Filled}
 use Rattle.tables.specs.Wants.{wants, gives, found, codeAt, chainOf}
@@ -20,19 +20,9 @@ use Rattle.tables.specs.declared.Want.the-variants.{Chain}
 use Rattle.tables.specs.declared.Want.{Want}
 use Rattle.tables.specs.declared.Which.{Which}
 use Rattle.tables.specs.declared.Which.the-variants.{First, Last}
-use Rattle.scratch.proofs.Laws.{fill-set, fill-same}
-
-pub last-zero : (t : ℕ → Bool) → last t 0 ≡ 0
-unfolding last
-last-zero t = refl
-
-pub last-yes : (t : ℕ → Bool) (n : ℕ) → t n ≡ true → last t (n + 1) ≡ n + 1
-unfolding last
-last-yes t n e = rw (add-one, e)
-
-pub last-no : (t : ℕ → Bool) (n : ℕ) → t n ≡ false → last t (n + 1) ≡ last t n
-unfolding last
-last-no t n e = rw (add-one, e)
+use Rattle.scratch.proofs.Laws.{fill-set, fill-same, fill-start}
+use Rattle.lists.proofs.Bools.{clash}
+use Rattle.lists.proofs.Searches.{first-kept, first-no, first-yes, first-zero, last-no, last-yes, last-zero}
 
 -- an atom is given to its own residue alone
 pub gives-yes : (J : Job) (w : Want) (r a : ℕ) → r ≡ J .residue a → wants J w a ≡ true → gives J w r a ≡ true
@@ -46,30 +36,6 @@ gives-other J w r a q = rw (ne-eqb _ _ q)
 pub gives-no : (J : Job) (w : Want) (r a : ℕ) → wants J w a ≡ false → gives J w r a ≡ false
 unfolding gives
 gives-no J w r a e = rw (e, and-false)
-
-pub first-zero : (t : ℕ → Bool) → first t 0 ≡ 0
-unfolding first
-first-zero t = refl
-
-first-yes : (t : ℕ → Bool) (n : ℕ) → first t n ≡ 0 → t n ≡ true → first t (n + 1) ≡ n + 1
-unfolding first
-first-yes t n z e = rw (add-one, z, e)
-
-orElse-zero : (a : ℕ) → orElse a 0 ≡ a
-orElse-zero zero = refl
-orElse-zero (suc a) = refl
-
-first-no : (t : ℕ → Bool) (n : ℕ) → t n ≡ false → first t (n + 1) ≡ first t n
-unfolding first
-first-no t n e = rw (add-one, e, orElse-zero)
-
-orElse-left : (a b : ℕ) → (a ≡ 0 → ⊥) → orElse a b ≡ a
-orElse-left zero b h = absurd (h refl)
-orElse-left (suc a) b h = refl
-
-first-kept : (t : ℕ → Bool) (n : ℕ) → (first t n ≡ 0 → ⊥) → first t (n + 1) ≡ first t n
-unfolding first
-first-kept t n h = rw (add-one, orElse-left (first t n) _ h)
 
 -- what a search finds when one more atom is looked at, for the first and the last alike
 pub found-zero : (x : Which) (t : ℕ → Bool) → found x t 0 ≡ 0
@@ -90,10 +56,7 @@ found-no Last t n e = last-no t n e
 pub found-kept : (x : Which) (t : ℕ → Bool) (n : ℕ) → keeps x (found x t n) ≡ true → found x t (n + 1) ≡ found x t n
 unfolding keeps found
 found-kept First t n k = first-kept t n (eqb-false _ _ (not-true _ k))
-found-kept Last t n k = let z : true ≡ false = sym k in absurd (true-false k)
-  where
-    true-false : false ≡ true → ⊥
-    true-false e = let z : _≡_ {A = ℕ} 0 1 = cc in omega arith
+found-kept Last t n k = clash refl (sym k)
 
 -- nothing is found from a up to a + d
 pub found-skip : (x : Which) (t : ℕ → Bool) (a d : ℕ) → ((k : ℕ) → a ≤ k → k < a + d → t k ≡ false) → found x t (a + d) ≡ found x t a
@@ -102,7 +65,13 @@ found-skip x t a (suc d) none =
     let e : a + suc d ≡ a + d + 1 = omega arith in
     rw e (found-no x t (a + d) (none (a + d) (omega arith) (omega arith)) ∙ found-skip x t a d (λ k l m. none k l (omega arith)))
 
--- one turn of `fill_part`, over the n residues from `first` on: the atom a is stored for its residue, is not asked for, has no residue among
+-- before the first atom
+pub fill-begins : (J : Job) (x : Which) (w : Want) (base : ℕ) (t : List ℕ) → ((r : ℕ) → r < J .residues → getD t (base + r) 0 ≡ 0)
+    → Filled (λ r. found x (gives J w (0 + r)) 0) (base + 0) (J .residues - 0) t t
+fill-begins J x w base t none =
+    fill-start _ _ _ _ (λ r l. let e : base + 0 + r ≡ base + r = omega arith in ap (λ (k : ℕ). getD t k 0) e ∙ none r (omega arith) ∙ sym (found-zero x _))
+
+-- one atom noted, over the n residues from `first` on: the atom a is stored for its residue, is not asked for, has no residue among
 -- them, or comes after the first
 module _ (J : Job) (x : Which) (w : Want) (base first n : ℕ) (t₀ t : List ℕ) (a : ℕ) (F : Filled (λ i. found x (gives J w (first + i)) a) (base + first) n t₀ t) where
   pub turn-hit : (r : ℕ) → base + first + n ≤ length t₀ → r ≡ J .residue a → first ≤ r → r < first + n → keeps x (getD t (base + r) 0) ≡ false → wants J w a ≡ true
@@ -131,15 +100,6 @@ module _ (J : Job) (x : Which) (w : Want) (base first n : ℕ) (t₀ t : List �
           let place : base + first + i ≡ base + r = omega arith in
           found-kept x _ a (ap (keeps x) (sym (F .entry i m) ∙ ap (λ (j : ℕ). getD t j 0) place) ∙ k)
       go i m false e = found-no x _ a (gives-other J w (first + i) a (λ p. eqb-false (first + i) r e (sym p ∙ sym q)))
-
-pub last-le : (t : ℕ → Bool) (n : ℕ) → last t n ≤ n
-unfolding last
-last-le t zero = omega arith
-last-le t (suc n) = go (last-le t n) (t n)
-  where
-    go : last t n ≤ n → (b : Bool) → cond b (suc n) (last t n) ≤ suc n
-    go h true = omega arith
-    go h false = omega arith
 
 -- a table from 0 that grows by one place
 module _ (f : ℕ → ℕ) (i : ℕ) (t₀ t : List ℕ) (F : Filled f 0 i t₀ t) where

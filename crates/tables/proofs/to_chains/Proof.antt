@@ -1,5 +1,5 @@
 use Rattle.tables.specs.declared.Want.the-variants.{Chain}
-use Rattle.tables.proofs.Laws.{last-le, grow-at, grow-same, grow-set, code-none, code-some}
+use Rattle.tables.proofs.Laws.{grow-at, grow-same, grow-set, code-none, code-some}
 use Rattle.scratch.proofs.Laws.{fill-start}
 use Prim.Native.Nat.{ℕ, _≤_, _-_, _+_}
 use mathlib.Core.Path.{_≡_, ap, _∙_}
@@ -9,6 +9,7 @@ use Rattle.tables.specs.Wants.{gives, chainOf}
 use Rattle.protein.specs.Job.{jobOf}
 use Rattle.scratch.specs.Scratch.{Filled}
 use mathlib.Core.Logic.{⊎-elim}
+use Rattle.lists.proofs.Searches.{last-le}
 use Rattle.tables.proofs.to_chains.Statement.{statement}
 use Rattle.tables.proofs.to_chains.Tie as tie
 
@@ -18,14 +19,8 @@ Inv-loop b h t₀ n i₀ t i = (i ≤ n) × Filled (chainOf (jobOf b h)) 0 i t�
 abbrev μ-loop : tie.MeasureT-loop
 μ-loop b h t₀ n i₀ t i = n - i
 
-loop-holds : tie.Need-loop-holds Inv-loop μ-loop
-loop-holds c = (search needs, fill-start _ _ _ _ (λ r l. absurd (omega arith)))
-
 mul-a : tie.Need-mul-a Inv-loop μ-loop
 mul-a c = omega (arith, c .before .loop .inv .1 .size, c .before .before .before .before .before .good .1 .1 .0 .1)
-
-cast-a : tie.Need-cast-a Inv-loop μ-loop
-cast-a c = omega (arith, c .slice-known2 .given (c .before .before .loop .i))
 
 chain-requires : tie.Need-chain-requires Inv-loop μ-loop
 chain-requires c κs =
@@ -35,9 +30,6 @@ chain-requires c κs =
 
 mul-t : tie.Need-mul-t Inv-loop μ-loop
 mul-t c = omega (arith, c .before .before .before .before .loop .inv .1 .size, c .before .before .before .before .before .before .before .before .good .1 .1 .0 .1)
-
-slice-write-t : tie.Need-slice-write-t Inv-loop μ-loop
-slice-write-t c = omega (arith, c .before .before .before .before .loop .inv .1 .size)
 
 loop-again : tie.Need-loop-again Inv-loop μ-loop
 loop-again c =
@@ -59,16 +51,16 @@ to-chains-spec =
     Inv-loop
     μ-loop
     (λ c. search needs)
-    loop-holds
+    (λ c. (search needs, fill-start _ _ _ _ (λ r l. absurd (omega arith))))
     mul-a
     (λ c. omega (arith, c .before .before .loop .inv .1 .size))
-    cast-a
+    (λ c. omega (arith, c .slice-known2 .given (c .before .before .loop .i)))
     (λ c. search needs)
     chain-requires
     (λ c. search needs)
     (λ c. search needs)
     mul-t
-    slice-write-t
+    (λ c. omega (arith, c .before .before .before .before .loop .inv .1 .size))
     (λ c. search needs)
     (λ c. search needs)
     loop-again

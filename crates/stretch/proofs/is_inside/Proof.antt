@@ -1,7 +1,7 @@
 use borrow.Author.Tests.{le-leb, lt-leb}
 use Rattle.stretch.specs.Stretch.{inside}
-use Rattle.tables.proofs.is_inside.Statement.{statement}
-use Rattle.tables.proofs.is_inside.Tie as tie
+use Rattle.stretch.proofs.is_inside.Statement.{statement}
+use Rattle.stretch.proofs.is_inside.Tie as tie
 
 returns : tie.Need-returns
 unfolding inside

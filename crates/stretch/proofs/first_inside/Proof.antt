@@ -1,0 +1,40 @@
+use Prim.Native.Nat.{_≤_, _-_}
+use mathlib.Core.Path.{sym, ap, _∙_}
+use native.Mathlib.Omega.{arith}
+use borrow.Author.Needs.{needs}
+use Rattle.protein.specs.Job.{jobOf}
+use Rattle.stretch.specs.Stretch.{inside, Outside}
+use Rattle.stretch.proofs.Laws.{outside-more}
+use Rattle.stretch.proofs.first_inside.Statement.{statement}
+use Rattle.stretch.proofs.first_inside.Tie as tie
+
+abbrev Inv-loop : tie.InvT-loop
+Inv-loop b h g from to a₀ a = (from ≤ a) × Outside (jobOf b h) g from a
+
+abbrev μ-loop : tie.MeasureT-loop
+μ-loop b h g from to a₀ a = to - a
+
+loop-again : tie.Need-loop-again Inv-loop μ-loop
+loop-again c =
+    let args = c .before .before .before .before .before .before .args in
+    (omega arith, outside-more (jobOf (args .b .now) (args .h)) (args .g) _ _ (c .before .before .before .before .loop .inv .1) (ap (inside (args .g)) (sym (c .before .before .serial .ensures)) ∙ sym (c .before .is-inside .ensures) ∙ c .if1 .left))
+
+returns : tie.Need-returns Inv-loop μ-loop
+returns c =
+    let args = c .before .before .before .before .before .before .args in
+    (omega arith, λ _. omega arith, c .before .before .before .before .loop .inv .1, λ _. ap (inside (args .g)) (sym (c .before .before .serial .ensures)) ∙ sym (c .before .is-inside .ensures) ∙ c .if1 .taken)
+
+pub first-inside-spec : {M : Type 1} → statement M
+first-inside-spec =
+    tie.close
+    (tie.spec
+    Inv-loop
+    μ-loop
+    (λ c. (omega arith, λ a l m. absurd (omega arith)))
+    (λ c κs. search needs)
+    (λ c κs. search needs)
+    returns
+    (λ c. search needs)
+    (λ c. search needs)
+    loop-again
+    (λ c. (omega arith, λ l. l, λ a l m. c .before .loop .inv .1 a l (omega arith), λ l. absurd (omega arith))))
