@@ -9,6 +9,7 @@ use Rattle.protein.specs.declared.Head.{Head}
 use Rattle.tubes.specs.Tubes.{Tube}
 use Rattle.mesh.specs.Mesh.{vertexSum}
 use Rattle.mesh.specs.Outs.{Outs}
+use Rattle.walk.specs.declared.Totals.{Totals}
 use Rattle.room.specs.declared.Counts.{Counts}
 
 -- what is lent, in places; no answer depends on more of a buffer than its length
@@ -33,6 +34,10 @@ lent o w f = record {
   words = length w;
   floats = length f;
 }
+
+-- K, V and T of a walk's totals
+abbrev pub countsIn : Totals → Counts
+countsIn t = record { tubes = t .tubes; vertices = t .vertices; triangles = t .triangles }
 
 -- 9: 'scratch under 8R u32 or 32R f32'
 unfoldable pub shortScratch : Head → ℕ → ℕ → Bool

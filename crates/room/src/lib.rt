@@ -6,13 +6,24 @@ ghost use Prim.Native.Nat.{_*_, _≤_};
 ghost use lib.ListN.{length};
 ghost use lib.Ieee.{binary32, ofBits};
 ghost use Rattle.walk.specs.Walk.{Small, allFrames};
-ghost use Rattle.room.specs.Room.{shortScratch, tight, zeroed, clearedWords, clearedFloats};
+ghost use Rattle.room.specs.Room.{countsIn, shortScratch, tight, zeroed, clearedWords, clearedFloats};
 
 // K, V and T.
 pub struct Counts {
     pub tubes: usize,
     pub vertices: usize,
     pub triangles: usize,
+}
+
+// K, V and T of a walk's totals.
+pub fn counts_of(t: Totals) -> Counts
+    ensures { λ r. ⌜ r ≡ countsIn t ⌝ }
+{
+    Counts {
+        tubes: t.tubes,
+        vertices: t.vertices,
+        triangles: t.triangles,
+    }
 }
 
 // Plus zeros in the first n places.
@@ -59,7 +70,7 @@ pub fn is_tight(
     boxes: usize,
 ) -> bool
     requires { ⌜ Small t allFrames ⌝ }
-    ensures { λ r. ⌜ r ≡ tight (record { tubes = t .tubes; vertices = t .vertices; triangles = t .triangles })
+    ensures { λ r. ⌜ r ≡ tight (countsIn t)
         (record { positions = positions; normals = normals; tags = tags; triangles = triangles; tubes = records; boxes = boxes; words = 0; floats = 0 }) ⌝ }
 {
     if positions < 3 * t.vertices {
