@@ -23,9 +23,6 @@ loop-again c =
     let loop = c .before .before .before .before .loop in
     (omega arith, over-more _ _ (loop .i) (loop .inv .1) (c .before .before .get-vec2 .ensures) (c .before .least .ensures), over-more _ _ (loop .i) (loop .inv .2) (c .before .before .get-vec2 .ensures) (c .greatest .ensures))
 
-put-vec-requires-2 : tie.Need-put-vec-requires-2 Inv-loop μ-loop
-put-vec-requires-2 c κs = omega (arith, kept _ _ _ (c .before .before .before .put-vec .ensures))
-
 returns : tie.Need-returns Inv-loop μ-loop
 unfolding boxOf
 returns c =
@@ -51,6 +48,6 @@ put-box-spec =
     loop-again
     (λ c κs. search needs)
     (λ c. search needs)
-    put-vec-requires-2
+    (λ c κs. omega (arith, kept _ _ _ (c .before .before .before .put-vec .ensures)))
     (λ c. search needs)
     returns)

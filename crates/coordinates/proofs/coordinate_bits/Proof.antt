@@ -4,17 +4,8 @@ use borrow.Author.Needs.{needs}
 use Rattle.coordinates.proofs.coordinate_bits.Statement.{statement}
 use Rattle.coordinates.proofs.coordinate_bits.Tie as tie
 
-float-to-bits-result : tie.Need-float-to-bits-result
-float-to-bits-result c = not-nan-neg _ _ (c .before .before .before .fits .size .fits) refl
-
 returns-2 : tie.Need-returns-2
 returns-2 c = minus _ _ (c .before .before .before .fits .size .fits) refl _ (c .if2 .taken) (c .before .before .if1 .left)
-
-float-to-bits-result-2 : tie.Need-float-to-bits-result-2
-float-to-bits-result-2 c = not-nan _ _ (c .before .before .before .fits .size .fits) refl
-
-returns-3 : tie.Need-returns-3
-returns-3 c = plus _ _ (c .before .before .before .fits .size .fits) refl _ (c .if2 .left)
 
 pub coordinate-bits-spec : {M : Type 1} → statement M
 coordinate-bits-spec =
@@ -22,7 +13,7 @@ coordinate-bits-spec =
     (tie.spec
     (λ c. zero-bits _ _ (c .if1 .taken))
     (λ c. search needs)
-    float-to-bits-result
+    (λ c. not-nan-neg _ _ (c .before .before .before .fits .size .fits) refl)
     returns-2
-    float-to-bits-result-2
-    returns-3)
+    (λ c. not-nan _ _ (c .before .before .before .fits .size .fits) refl)
+    (λ c. plus _ _ (c .before .before .before .fits .size .fits) refl _ (c .if2 .left)))

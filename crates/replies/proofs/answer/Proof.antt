@@ -14,9 +14,6 @@ same-length-2 c = c .before .before .before .before .before .before .before .bef
 same-length-3 : tie.Need-same-length-3
 same-length-3 c = c .before .before .before .before .before .before .before .before .before .before .before .before .before .tags .given
 
-same-length-6 : tie.Need-same-length-6
-same-length-6 c = c .before .before .before .before .before .before .before .boxes .given
-
 slice-aggregate-serve-plan : tie.Need-slice-aggregate-serve-plan
 slice-aggregate-serve-plan c = sym (length-take-le _ _ (c .before .before .before .before .before .before .before .before .before .before .before .before .before .before .before .before .pre .1 .words))
 
@@ -44,7 +41,7 @@ answer-spec =
     same-length-3
     (λ c. search needs)
     (λ c. search needs)
-    same-length-6
+    (λ c. c .before .before .before .before .before .before .before .boxes .given)
     (λ c. search needs)
     (λ c. search needs)
     (λ c. c .before .out .given)

@@ -16,21 +16,6 @@ abbrev μ-loop : tie.MeasureT-loop
 loop-holds : tie.Need-loop-holds Inv-loop μ-loop
 loop-holds c = (sym (length-replicate 102000 (ofBits binary32 0)), sym (length-replicate 102000 (ofBits binary32 0)), sym (length-replicate {A = ℕ} 34000 0), sym (length-replicate {A = ℕ} 203988 0), sym (length-replicate {A = ℕ} 5120 0), sym (length-replicate 6144 (ofBits binary32 0)), sym (length-replicate {A = ℕ} 4096 0), sym (length-replicate 16384 (ofBits binary32 0)), sym (length-replicate {A = ℕ} 102000 0), c .room-for-bytes .ensures, sym (length-replicate {A = ℕ} 65536 0))
 
-slice-aggregate-serve-5 : tie.Need-slice-aggregate-serve-5 Inv-loop μ-loop
-slice-aggregate-serve-5 c = c .before .before .before .before .before .before .loop .inv .4
-
-slice-aggregate-serve-6 : tie.Need-slice-aggregate-serve-6 Inv-loop μ-loop
-slice-aggregate-serve-6 c = c .before .before .before .before .before .before .before .loop .inv .5
-
-slice-aggregate-serve-7 : tie.Need-slice-aggregate-serve-7 Inv-loop μ-loop
-slice-aggregate-serve-7 c = c .before .before .before .before .before .before .before .before .loop .inv .6
-
-slice-aggregate-serve-8 : tie.Need-slice-aggregate-serve-8 Inv-loop μ-loop
-slice-aggregate-serve-8 c = c .before .before .before .before .before .before .before .before .before .loop .inv .7
-
-slice-aggregate-serve-9 : tie.Need-slice-aggregate-serve-9 Inv-loop μ-loop
-slice-aggregate-serve-9 c = c .before .before .before .before .before .before .before .before .before .before .loop .inv .8
-
 slice-aggregate-serve-10 : tie.Need-slice-aggregate-serve-10 Inv-loop μ-loop
 slice-aggregate-serve-10 c = c .before .before .before .before .before .before .before .before .before .before .before .loop .inv .9
 
@@ -55,11 +40,11 @@ serve-all-spec =
     (λ c. c .before .before .before .loop .inv .1)
     (λ c. c .before .before .before .before .loop .inv .2)
     (λ c. c .before .before .before .before .before .loop .inv .3)
-    slice-aggregate-serve-5
-    slice-aggregate-serve-6
-    slice-aggregate-serve-7
-    slice-aggregate-serve-8
-    slice-aggregate-serve-9
+    (λ c. c .before .before .before .before .before .before .loop .inv .4)
+    (λ c. c .before .before .before .before .before .before .before .loop .inv .5)
+    (λ c. c .before .before .before .before .before .before .before .before .loop .inv .6)
+    (λ c. c .before .before .before .before .before .before .before .before .before .loop .inv .7)
+    (λ c. c .before .before .before .before .before .before .before .before .before .before .loop .inv .8)
     slice-aggregate-serve-10
     slice-aggregate-serve-11
     serve-requires

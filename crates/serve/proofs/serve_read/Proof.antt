@@ -6,9 +6,6 @@ use borrow.Author.Needs.{needs}
 use Rattle.serve.proofs.serve_read.Statement.{statement}
 use Rattle.serve.proofs.serve_read.Tie as tie
 
-slice-aggregate-fill : tie.Need-slice-aggregate-fill
-slice-aggregate-fill c = sym (length-take-le _ _ (omega (arith, c .before .before .if1 .left)))
-
 slice-aggregate-answer-read : tie.Need-slice-aggregate-answer-read
 slice-aggregate-answer-read c = sym (length-take-le _ _ (simp length-append (omega (arith, c .before .before .before .before .bytes3 .given, c .before .before .before .before .before .before .before .before .if1 .left, length-take-le (c .before .before .before .before .before .before .before .before .before .before .before .before .args .n) (c .before .before .before .before .before .before .before .before .before .before .before .before .args .bytes .now) (omega (arith, c .before .before .before .before .before .before .before .before .if1 .left))))))
 
@@ -28,7 +25,7 @@ serve-read-spec =
     (λ c. search needs)
     (λ c. search needs)
     (λ c. search needs)
-    slice-aggregate-fill
+    (λ c. sym (length-take-le _ _ (omega (arith, c .before .before .if1 .left))))
     (λ c κs. search needs)
     (λ c κs. search needs)
     (λ c κs. search needs)

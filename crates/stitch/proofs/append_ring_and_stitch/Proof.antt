@@ -19,9 +19,6 @@ loop-holds : tie.Need-loop-holds Inv-loop μ-loop
 unfolding put upto
 loop-holds c = (omega arith, omega arith, refl)
 
-add-put-corners : tie.Need-add-put-corners Inv-loop μ-loop
-add-put-corners c = omega (arith, kept _ _ _ (c .before .before .before .before .before .before .loop .inv .2))
-
 put-corners-requires-2 : tie.Need-put-corners-requires-2 Inv-loop μ-loop
 put-corners-requires-2 c κs = omega (arith, kept _ _ _ (c .before .before .before .put-corners .ensures), kept _ _ _ (c .before .before .before .before .before .before .loop .inv .2))
 
@@ -53,7 +50,7 @@ append-ring-and-stitch-spec =
     (λ c. omega arith)
     (λ c. omega arith)
     (λ c κs. omega (arith, kept _ _ _ (c .before .before .loop .inv .2)))
-    add-put-corners
+    (λ c. omega (arith, kept _ _ _ (c .before .before .before .before .before .before .loop .inv .2)))
     put-corners-requires-2
     add-place
     (λ c. omega arith)

@@ -19,12 +19,6 @@ loop-holds : tie.Need-loop-holds Inv-loop μ-loop
 unfolding put upto
 loop-holds c = (omega arith, omega arith, refl)
 
-cap-side-requires : tie.Need-cap-side-requires Inv-loop μ-loop
-cap-side-requires c κs = (omega (arith, kept _ _ _ (c .before .before .loop .inv .2)), omega arith)
-
-add-place : tie.Need-add-place Inv-loop μ-loop
-add-place c = omega (arith, kept _ _ _ (c .before .before .before .before .before .loop .inv .2))
-
 loop-again : tie.Need-loop-again Inv-loop μ-loop
 loop-again c = let loop = c .before .before .before .before .before .loop in
     let args = c .before .before .before .before .before .before .before .args in (
@@ -46,8 +40,8 @@ emit-cap-spec =
     Inv-loop
     μ-loop
     loop-holds
-    cap-side-requires
-    add-place
+    (λ c κs. (omega (arith, kept _ _ _ (c .before .before .loop .inv .2)), omega arith))
+    (λ c. omega (arith, kept _ _ _ (c .before .before .before .before .before .loop .inv .2)))
     (λ c. omega arith)
     (λ c. omega arith)
     loop-again

@@ -55,9 +55,6 @@ returns c = let loop = c .before .before .before .before .before .loop in
     assembled 8 8 (args .first) (args .n) _ _ _ (args .at) (loop .j) _ _ _ _ (omega arith) (omega arith)
     (c .before .before .before .before .before .before .before .before .emit-cap .ensures) (loop .inv .6) (c .before .before .emit-cap2 .ensures) refl (omega arith) (omega arith) (loop .inv .2)
 
-mul-bands : tie.Need-mul-bands Inv-loop μ-loop
-mul-bands c = omega (arith, vertex-count (c .before .args .n) (c .before .pre .1 .0))
-
 emit-cap-requires : tie.Need-emit-cap-requires Inv-loop μ-loop
 emit-cap-requires c κs = (omega (arith, triangle-count (c .before .before .args .n) (c .before .before .pre .1 .0)), omega (arith, vertex-count (c .before .before .args .n) (c .before .before .pre .1 .0)))
 
@@ -80,7 +77,7 @@ tube-triangles-spec =
     Inv-loop
     μ-loop
     (λ c. search needs)
-    mul-bands
+    (λ c. omega (arith, vertex-count (c .before .args .n) (c .before .pre .1 .0)))
     (λ c. search needs)
     emit-cap-requires
     add-place
