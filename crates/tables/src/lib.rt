@@ -36,6 +36,7 @@ fn has_role(b: &[u8], h: Head, a: usize, role: usize) -> bool
     protein::role(b, h, a) == role
 }
 
+// Whether a table asks for atom a. For a segment's two tables `note_inside` asks less, since it knows that the atom is in the range.
 fn is_wanted(b: &[u8], h: Head, w: Want, a: usize) -> bool
     requires { ⌜ Whole (now b) h × a < h .atoms ⌝ }
     ensures { λ r. ⌜ r ≡ wants (jobOf (now (b .entry)) h) w a ⌝ }
