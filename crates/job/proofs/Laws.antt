@@ -4,7 +4,7 @@ use mathlib.Core.Bool.{Bool, true, false, cond, not, _||_}
 use mathlib.Core.Path.{_≡_, refl, ap, subst}
 use native.Mathlib.Omega.{arith}
 use Rattle.job.specs.declared.Refusal.{Refusal}
-use Rattle.job.specs.declared.Refusal.the-variants.{BadLength, BadVersion, BadCounts, BadSize, BadVisibility, BadKind, BadAtom, BadCoordinate}
+use Rattle.job.specs.declared.Refusal.the-variants.{BadLength, BadVersion, BadCounts, BadSize}
 use lib.Dec.{ltb, eqb}
 use lib.ListN.{length}
 use Rattle.numbers.specs.Bytes.{u8At, u16At, u32At}
@@ -14,8 +14,8 @@ use Rattle.protein.specs.declared.Head.{Head}
 use Rattle.protein.specs.Layout.{Whole, headOf, jobSize}
 use borrow.Author.Tests.{eqb-true, ltb-false, not-false}
 use mathlib.Core.List.{List}
-use Rattle.job.specs.Check.{orFirst, sizes, contents, check, andThen, badVisibility, badKind, badAtom, badCoordinate}
-use Rattle.lists.specs.Search.{first}
+use Rattle.job.specs.Check.{orFirst, sizes, contents, check, andThen}
+use Rattle.job.proofs.Accepted.{contents-accepted}
 
 -- a search's answer in the ladder of checks
 pub orFirst-pos : (v : ℕ) (f : ℕ → Refusal) (rest : Checked) → 0 < v → orFirst v f rest ≡ Refused (f (v - 1))
@@ -54,24 +54,10 @@ pub or-last : {a b c x : Bool} → a ≡ false → b ≡ false → x ≡ c → x
 or-last {a} {b} {c} {x} p q r = rw (p, q, r)
 
 -- a job that passes the checks is whole
-step : (v : ℕ) (f : ℕ → Refusal) (rest : Checked) (h : Head) → orFirst v f rest ≡ Fine h → (v ≡ 0) × (rest ≡ Fine h)
-step zero f rest h e = (refl, e)
-step (suc v) f rest h e = let z : _≡_ {A = ℕ} 0 1 = cc in absurd (omega arith)
-
-contents-same : (s : List ℕ) (h h' : Head) → contents s h ≡ Fine h' → h ≡ h'
-unfolding contents
-contents-same s h h' e =
-    let a = step (first (badVisibility s h) (h .chains)) BadVisibility _ h' e in
-    let b = step (first (badKind s h) (h .segments)) BadKind _ h' (a .1) in
-    let c = step (first (badAtom s h) (h .atoms)) BadAtom _ h' (b .1) in
-    let d = step (first (badCoordinate s h) (h .atoms)) BadCoordinate (Fine h) h' (c .1) in
-    let f : Fine h ≡ Fine h' = d .1 in
-    cc
-
 pub check-whole : (s : List ℕ) (h : Head) → check s ≡ Fine h → Whole s h
 unfolding check
 check-whole s h e = go (sizes s) refl e
   where
     go : (x : Checked) → sizes s ≡ x → andThen x (contents s) ≡ Fine h → Whole s h
     go (Refused r) q e = let z : _≡_ {A = ℕ} 0 1 = cc in absurd (omega arith)
-    go (Fine k) q e = subst (λ (k : Head). Whole s k) (contents-same s k h e) (sizes-whole s k q)
+    go (Fine k) q e = subst (λ (k : Head). Whole s k) (contents-accepted s k h e .0) (sizes-whole s k q)

@@ -4,6 +4,5 @@ pub mod Linked
 pub mod Tubes
 pub mod Sums
 pub mod Ends
-pub mod Accepted
 pub mod Same
 pub mod Order

@@ -2,7 +2,7 @@
 use Prim.Native.Nat.{ℕ, zero, suc, _+_, _*_, _≤_}
 use mathlib.Core.Bool.{Bool, true, false, cond, _&&_}
 use mathlib.Core.List.{List, [], _∷_, _++_, map}
-use mathlib.Core.Path.{_≡_, refl, _∙_, ap}
+use mathlib.Core.Path.{_≡_}
 use native.Mathlib.Nat.{suc-mul}
 use native.Mathlib.Omega.{arith}
 use lib.ListN.{length, getD}
@@ -10,11 +10,11 @@ use lib.Dec.{ltb}
 use Rattle.tables.specs.Wants.{chainOf}
 use Rattle.protein.specs.Job.{Job}
 use Rattle.tubes.specs.Frames.{chosen}
-use Rattle.tubes.specs.Pieces.{glue, pieces, apart}
+use Rattle.tubes.specs.Pieces.{pieces, apart}
 use Rattle.tubes.specs.Tubes.{Tube, given, segmentAlpha, shown, frames, counts, gap, tubeOf, tubesOf, runTubes, segmentTubes, joined, loose, joins, extended, coilTubes, tubes}
 use Rattle.tubes.specs.declared.Source.{Source}
 use Rattle.tubes.specs.declared.Source.the-variants.{Coils, Segment}
-use Rattle.tubes.proofs.Laws.{chosen-length}
+use Rattle.tubes.proofs.Laws.{chosen-length, frameCount, pieces-count}
 use Rattle.coils.proofs.Laws.{extended-few}
 use Rattle.edges.proofs.Theorems.{vertex-count, triangle-count}
 use Rattle.mesh.specs.Mesh.{sizeOf, vertexSum, triangleSum}
@@ -29,25 +29,6 @@ unfolding frameSum
 sum-join [] vs = omega arith
 sum-join (u ∷ us) vs = omega (arith, sum-join us vs)
 
--- the numbers in all lists of a list
-sizes : List (List ℕ) → ℕ
-sizes [] = 0
-sizes (p ∷ ps) = length p + sizes ps
-
-glue-sizes : (cut : ℕ → ℕ → Bool) (x : ℕ) (ps : List (List ℕ)) → sizes (glue cut x ps) ≡ suc (sizes ps)
-unfolding sizes
-glue-sizes cut x [] = omega arith
-glue-sizes cut x (p ∷ ps) = go (cut x (getD p 0 0))
-  where
-    go : (b : Bool) → sizes (cond b ((x ∷ []) ∷ (p ∷ ps)) ((x ∷ p) ∷ ps)) ≡ suc (length p + sizes ps)
-    go true = omega arith
-    go false = omega arith
-
-pieces-sizes : (cut : ℕ → ℕ → Bool) (l : List ℕ) → sizes (pieces cut l) ≡ length l
-unfolding pieces sizes
-pieces-sizes cut [] = refl
-pieces-sizes cut (x ∷ xs) = glue-sizes cut x (pieces cut xs) ∙ ap suc (pieces-sizes cut xs)
-
 module _ (source : Source) (kind : ℕ) where
   tube-sum : (p : List ℕ) → frameSum (tubeOf source kind p) ≤ length p
   unfolding frameSum tubeOf
@@ -57,19 +38,19 @@ module _ (source : Source) (kind : ℕ) where
       go true = omega arith
       go false = omega arith
 
-  tubes-sum : (ps : List (List ℕ)) → frameSum (tubesOf source kind ps) ≤ sizes ps
-  unfolding frameSum tubesOf sizes
+  tubes-sum : (ps : List (List ℕ)) → frameSum (tubesOf source kind ps) ≤ frameCount ps
+  unfolding frameSum tubesOf frameCount
   tubes-sum [] = omega arith
   tubes-sum (p ∷ ps) = omega (arith, sum-join (tubeOf source kind p) (tubesOf source kind ps), tube-sum p, tubes-sum ps)
 
-  runs-sum : (cut : ℕ → ℕ → Bool) (rs : List (List ℕ)) → frameSum (runTubes source kind cut rs) ≤ sizes rs
-  unfolding frameSum runTubes sizes
+  runs-sum : (cut : ℕ → ℕ → Bool) (rs : List (List ℕ)) → frameSum (runTubes source kind cut rs) ≤ frameCount rs
+  unfolding frameSum runTubes frameCount
   runs-sum cut [] = omega arith
-  runs-sum cut (r ∷ rs) = omega (arith, sum-join (tubesOf source kind (pieces cut r)) (runTubes source kind cut rs), tubes-sum (pieces cut r), pieces-sizes cut r, runs-sum cut rs)
+  runs-sum cut (r ∷ rs) = omega (arith, sum-join (tubesOf source kind (pieces cut r)) (runTubes source kind cut rs), tubes-sum (pieces cut r), pieces-count cut r, runs-sum cut rs)
 
 -- at most two more for each run, and a run has one at least
-extended-sizes : (join : ℕ → ℕ → Bool) (rs : List (List ℕ)) → EachList (λ r. 1 ≤ length r) rs → sizes (map (extended join) rs) ≤ 3 * sizes rs
-unfolding sizes
+extended-sizes : (join : ℕ → ℕ → Bool) (rs : List (List ℕ)) → EachList (λ r. 1 ≤ length r) rs → frameCount (map (extended join) rs) ≤ 3 * frameCount rs
+unfolding frameCount
 extended-sizes join [] a = omega arith
 extended-sizes join (r ∷ rs) a = omega (arith, a .0, extended-few join r, extended-sizes join rs (a .1))
 
@@ -86,7 +67,7 @@ module _ (J : Job) (far : ℕ → ℕ → Bool) where
           omega (
             arith,
             runs-sum (Segment i) (J .kind i) (gap J far (Segment i)) (pieces (apart (chainOf J)) (frames J i)),
-            pieces-sizes (apart (chainOf J)) (frames J i),
+            pieces-count (apart (chainOf J)) (frames J i),
             chosen-length (λ r. given (segmentAlpha J i r)) (J .residues),
           )
       go false = omega arith
@@ -96,7 +77,7 @@ module _ (J : Job) (far : ℕ → ℕ → Bool) where
   coils-sum =
       let l = chosen (loose J) (J .residues) in
       let rs = pieces (apart (chainOf J)) l in
-      omega (arith, runs-sum Coils 0 (gap J far Coils) (map (extended (joins J)) rs), extended-sizes (joins J) rs (pieces-some _ l), pieces-sizes (apart (chainOf J)) l, chosen-length (loose J) (J .residues))
+      omega (arith, runs-sum Coils 0 (gap J far Coils) (map (extended (joins J)) rs), extended-sizes (joins J) rs (pieces-some _ l), pieces-count (apart (chainOf J)) l, chosen-length (loose J) (J .residues))
 
   segments-sum : (n : ℕ) → frameSum (joined (segmentTubes J far) n) ≤ n * J .residues
   unfolding joined frameSum

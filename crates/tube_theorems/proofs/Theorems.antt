@@ -22,7 +22,7 @@ use Rattle.tube_theorems.proofs.Tubes.{every-map, every-member, tubes-p
 use Rattle.tube_theorems.proofs.Order.{all-order, all-once}
 use Rattle.tube_theorems.proofs.Sums.{segment-sum, coils-sum, tubes-frames, vertices-exact, triangles-exact, tubes-few}
 use Rattle.tube_theorems.proofs.Ends.{covered-any, segment-placed, covered-some}
-use Rattle.tube_theorems.proofs.Accepted.{kind-few}
+use Rattle.job.proofs.Accepted.{kind-few}
 use Rattle.tube_theorems.proofs.Same.{all-same}
 
 -- ---- each tube

@@ -23,17 +23,18 @@ pub record Accepted (s : List ℕ) (h : Head) : Type 0 where
   pub atoms : (i : ℕ) → i < h .atoms → badAtom s h i ≡ false
   pub coordinates : (i : ℕ) → i < h .atoms → badCoordinate s h i ≡ false
 
-fine : (v : ℕ) (f : ℕ → Refusal) (rest : Checked) (h : Head) → orFirst v f rest ≡ Fine h → (v ≡ 0) × (rest ≡ Fine h)
-fine zero f rest h e = (refl, e)
-fine (suc v) f rest h e = let z : _≡_ {A = ℕ} 0 1 = cc in absurd (omega arith)
+-- a rung of the ladder of checks that is passed
+passed : (v : ℕ) (f : ℕ → Refusal) (rest : Checked) (h : Head) → orFirst v f rest ≡ Fine h → (v ≡ 0) × (rest ≡ Fine h)
+passed zero f rest h e = (refl, e)
+passed (suc v) f rest h e = let z : _≡_ {A = ℕ} 0 1 = cc in absurd (omega arith)
 
-contents-accepted : (s : List ℕ) (h h' : Head) → contents s h ≡ Fine h' → (h ≡ h') × Accepted s h
+pub contents-accepted : (s : List ℕ) (h h' : Head) → contents s h ≡ Fine h' → (h ≡ h') × Accepted s h
 unfolding contents
 contents-accepted s h h' e =
-    let a = fine (first (badVisibility s h) (h .chains)) BadVisibility _ h' e in
-    let b = fine (first (badKind s h) (h .segments)) BadKind _ h' (a .1) in
-    let c = fine (first (badAtom s h) (h .atoms)) BadAtom _ h' (b .1) in
-    let d = fine (first (badCoordinate s h) (h .atoms)) BadCoordinate (Fine h) h' (c .1) in
+    let a = passed (first (badVisibility s h) (h .chains)) BadVisibility _ h' e in
+    let b = passed (first (badKind s h) (h .segments)) BadKind _ h' (a .1) in
+    let c = passed (first (badAtom s h) (h .atoms)) BadAtom _ h' (b .1) in
+    let d = passed (first (badCoordinate s h) (h .atoms)) BadCoordinate (Fine h) h' (c .1) in
     let f : Fine h ≡ Fine h' = d .1 in (
       cc,
       record {
