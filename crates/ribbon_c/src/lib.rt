@@ -10,7 +10,7 @@ ghost use Rattle.mesh.specs.Outs.{outs};
 ghost use Rattle.ribbon.specs.Calls.{buildAnswer, planAnswer, outsAfter, wordsAfter, floatsAfter};
 ghost use Rattle.room.specs.Room.{lent};
 ghost use Rattle.pdb_reader.specs.Call.{readAnswer, bufferAfter};
-ghost use Rattle.ribbon_c.specs.Parts.{PartFor};
+ghost use Rattle.tube_call.specs.Part.{PartFor};
 ghost use Rattle.ribbon_c.specs.Words.{wordOf, wordsOf, builtNumbers, plannedNumbers, readNumbers};
 
 fn word(n: usize) -> u32
@@ -126,13 +126,9 @@ pub extern "C" fn ribbon_tube(
 ) -> usize
     ensures { λ n. ⌜ PartFor (now (tubes .entry)) (now (triangles .entry)) k (now (start .exit)) n ⌝ }
 {
-    let n = tube_call::tube(tubes, triangles, k).len();
-    if n == 0 {
-        *start = 0;
-        return 0;
-    }
-    *start = 3 * (tubes[5 * k + 4] as usize);
-    n
+    let part = tube_call::locate(tubes, triangles, k);
+    *start = part.start;
+    part.size
 }
 
 // The number (0: a job) and the job's size, or a refusal's number and what it carries, go to answer.

@@ -1,9 +1,10 @@
 -- What the tube call answers: 01, 'Shape of a tube'.
-use Prim.Native.Nat.{ℕ, _+_, _*_, _/_}
+use Prim.Native.Nat.{ℕ, _+_, _*_, _/_, _≤_}
 use mathlib.Core.List.{List, []}
 use mathlib.Core.Bool.{cond, _&&_}
+use mathlib.Core.Path.{_≡_}
 use lib.ListN.{length, getD, take, drop}
-use lib.Dec.{ltb, leb}
+use lib.Dec.{eqb, ltb, leb}
 use Rattle.edges.specs.Tube.{triangleCount}
 
 -- 'That part is 3(128n-112) words from three times the tube's first triangle. It returns an empty part if k has no five words in the tube buffer,
@@ -14,3 +15,10 @@ tubePart tubes triangles k =
     let from = 3 * getD tubes (5 * k + 4) 0 in
     let size = 3 * triangleCount n in
     cond (ltb k (length tubes / 5) && (leb 2 n && (leb n 16384 && leb (from + size) (length triangles)))) (take size (drop from triangles)) []
+
+-- where it stands in the buffer: 'from three times the tube's first triangle'; 0 where the part is empty
+pub record PartFor (tubes triangles : List ℕ) (k start n : ℕ) : Type 0 where
+  pub size : n ≡ length (tubePart tubes triangles k)
+  pub begin : start ≡ cond (eqb n 0) 0 (3 * getD tubes (5 * k + 4) 0)
+  pub within : start + n ≤ length triangles
+  pub there : take n (drop start triangles) ≡ tubePart tubes triangles k

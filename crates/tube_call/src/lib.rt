@@ -1,6 +1,12 @@
 // The tube call of 01. Nothing is demanded of whoever calls it.
 ghost use mathlib.Core.Path.{_≡_};
-ghost use Rattle.tube_call.specs.Part.{tubePart};
+ghost use Rattle.tube_call.specs.Part.{tubePart, PartFor};
+
+// A part's first place in its buffer, 0 where it is empty, and how many places it has.
+pub struct Located {
+    pub start: usize,
+    pub size: usize,
+}
 
 // The part of the caller's own triangle buffer for tube k.
 pub fn tube<'a>(records: &[u32], triangles: &'a [u32], k: usize) -> &'a [u32]
@@ -24,4 +30,16 @@ pub fn tube<'a>(records: &[u32], triangles: &'a [u32], k: usize) -> &'a [u32]
         return &triangles[0..0];
     }
     &triangles[from..end]
+}
+
+// Where the part of tube k stands in the triangle buffer.
+pub fn locate(records: &[u32], triangles: &[u32], k: usize) -> Located
+    ensures { λ r. ⌜ PartFor (now (records .entry)) (now (triangles .entry)) k (r .start) (r .size) ⌝ }
+{
+    let size = tube(records, triangles, k).len();
+    if size == 0 {
+        return Located { start: 0, size: 0 };
+    }
+    let start = 3 * (records[5 * k + 4] as usize);
+    Located { start, size }
 }

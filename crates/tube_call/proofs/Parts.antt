@@ -9,8 +9,7 @@ use lib.ListN.{length, take, drop, getD, length-drop}
 use lib.Seq.{length-take-le}
 use borrow.Author.Tests.{ltb-true, leb-true, ne-eqb}
 use Rattle.edges.specs.Tube.{triangleCount}
-use Rattle.tube_call.specs.Part.{tubePart}
-use Rattle.ribbon_c.specs.Parts.{PartFor}
+use Rattle.tube_call.specs.Part.{tubePart, PartFor}
 use Rattle.lists.proofs.Bools.{and-left, and-right}
 use Rattle.lists.proofs.Any.{no-elements}
 

@@ -2,30 +2,30 @@ use Prim.Native.Nat.{_+_, _*_}
 use mathlib.Core.Path.{sym, ap, _∙_}
 use lib.ListN.{length}
 use native.Mathlib.Omega.{arith}
-use Rattle.ribbon_c.proofs.Laws.{listed, part-full, part-empty}
+use Rattle.tube_call.proofs.Parts.{listed, part-full, part-empty}
 use borrow.Author.Needs.{needs}
-use Rattle.ribbon_c.proofs.ribbon_tube.Statement.{statement}
-use Rattle.ribbon_c.proofs.ribbon_tube.Tie as tie
+use Rattle.tube_call.proofs.locate.Statement.{statement}
+use Rattle.tube_call.proofs.locate.Tie as tie
 
 mul-start : tie.Need-mul-start
 mul-start c =
     let args = c .before .before .before .before .args in
-    omega (arith, listed (args .tubes .now) (args .triangles .now) (args .k) (λ z. c .if1 .left (ap length (c .before .tube .ensures) ∙ z)))
+    omega (arith, listed (args .records .now) (args .triangles .now) (args .k) (λ z. c .if1 .left (ap length (c .before .tube .ensures) ∙ z)))
 
 add-start : tie.Need-add-start
 add-start c =
     let args = c .before .before .before .before .args in
-    omega (arith, listed (args .tubes .now) (args .triangles .now) (args .k) (λ z. c .if1 .left (ap length (c .before .tube .ensures) ∙ z)))
+    omega (arith, listed (args .records .now) (args .triangles .now) (args .k) (λ z. c .if1 .left (ap length (c .before .tube .ensures) ∙ z)))
 
 mul-start-2 : tie.Need-mul-start-2
 mul-start-2 c =
     let args = c .before .before .before .before .args in
-    omega (arith, listed (args .tubes .now) (args .triangles .now) (args .k) (λ z. c .if1 .left (ap length (c .before .tube .ensures) ∙ z)))
+    omega (arith, listed (args .records .now) (args .triangles .now) (args .k) (λ z. c .if1 .left (ap length (c .before .tube .ensures) ∙ z)))
 
 shared-slice-read-start : tie.Need-shared-slice-read-start
 shared-slice-read-start c =
     let args = c .before .before .before .before .before .args in
-    listed (args .tubes .now) (args .triangles .now) (args .k) (λ z. c .before .if1 .left (ap length (c .before .before .tube .ensures) ∙ z))
+    listed (args .records .now) (args .triangles .now) (args .k) (λ z. c .before .if1 .left (ap length (c .before .before .tube .ensures) ∙ z))
 
 cast-start : tie.Need-cast-start
 cast-start c = omega (arith, c .shared-slice-known3 .given (5 * (c .before .before .before .before .before .args .k) + 4))
@@ -36,10 +36,10 @@ mul-start-3 c = omega (arith, c .shared-slice-known3 .given (5 * (c .before .bef
 returns-2 : tie.Need-returns-2
 returns-2 c =
     let args = c .before .before .before .before .before .args in
-    part-full (args .tubes .now) (args .triangles .now) (args .k) _ (ap length (c .before .before .tube .ensures)) (c .before .if1 .left)
+    part-full (args .records .now) (args .triangles .now) (args .k) _ (ap length (c .before .before .tube .ensures)) (c .before .if1 .left)
 
-pub ribbon-tube-spec : {M : Type 1} → statement M
-ribbon-tube-spec =
+pub locate-spec : {M : Type 1} → statement M
+locate-spec =
     tie.close
     (tie.spec
     (λ c κs. search needs)
