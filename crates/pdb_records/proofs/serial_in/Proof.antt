@@ -3,9 +3,6 @@ use borrow.Author.Needs.{needs}
 use Rattle.pdb_records.proofs.serial_in.Statement.{statement}
 use Rattle.pdb_records.proofs.serial_in.Tie as tie
 
-enum-told : tie.Need-enum-told
-enum-told c = search needs
-
 returns : tie.Need-returns
 returns c = simp (sym (c .before .before .before .before .whole-in .ensures) ∙ c .before .before .n .given .1, c .if1 .taken)
 
@@ -17,7 +14,7 @@ serial-in-spec =
     tie.close
     (tie.spec
     (λ c κs. search needs)
-    enum-told
+    (λ c. search needs)
     (λ c. search needs)
     returns
     (λ c. search needs)

@@ -16,7 +16,9 @@ abbrev μ-loop : tie.MeasureT-loop
 μ-loop b h n a₀ a = n - a
 
 returns : tie.Need-returns Inv-loop μ-loop
-returns c = record { few = omega arith; up = let q : c .before .before .before .before .loop .a + 1 - 1 ≡ c .before .before .before .before .loop .a = omega arith in rw q (c .before .before .before .before .loop .inv .1) }
+returns c =
+    let loop = c .before .before .before .before .loop in
+    record { few = omega arith; up = let q : loop .a + 1 - 1 ≡ loop .a = omega arith in rw q (loop .inv .1) }
 
 returns-2 : tie.Need-returns-2 Inv-loop μ-loop
 returns-2 c = record { few = omega arith; up = let q : c .before .loop .a ≡ c .before .before .before .before .args .h .atoms - 1 = omega arith in rw q at (c .before .loop .inv .1) }

@@ -20,7 +20,10 @@ returns-4 : tie.Need-returns-4
 returns-4 c = turn-kept _ _ _ _ _ _ _ _ _ (fill-start _ _ _ _ (c .before .before .before .before .before .before .before .before .before .before .before .before .pre .1)) _ (c .before .before .before .before .before .before .before .residue .ensures) (c .before .before .before .before .before .if2 .left) (omega (arith, c .before .before .before .before .before .if2 .left, c .before .before .before .if3 .left)) (sym (c .before .is-kept .ensures) ∙ c .if4 .taken)
 
 returns-5 : tie.Need-returns-5
-returns-5 c = turn-hit _ _ _ _ _ _ _ _ _ (fill-start _ _ _ _ (c .before .before .before .before .before .before .before .before .before .before .before .before .pre .1)) _ (omega (arith, c .before .before .before .before .before .if2 .left, c .before .before .before .if3 .left, c .before .before .before .before .before .before .before .before .before .before .before .before .pre .0 .2, c .before .before .before .before .before .before .before .before .before .before .before .before .pre .0 .3)) (c .before .before .before .before .before .before .before .residue .ensures) (c .before .before .before .before .before .if2 .left) (omega (arith, c .before .before .before .before .before .if2 .left, c .before .before .before .if3 .left)) (sym (c .before .is-kept .ensures) ∙ c .if4 .left) (sym (c .before .before .before .before .before .before .before .before .before .is-wanted .ensures) ∙ not-false _ (c .before .before .before .before .before .before .before .before .if1 .left))
+returns-5 c =
+    let pre = c .before .before .before .before .before .before .before .before .before .before .before .before .pre in
+    let left = c .before .before .before .before .before .if2 .left in
+    turn-hit _ _ _ _ _ _ _ _ _ (fill-start _ _ _ _ (pre .1)) _ (omega (arith, left, c .before .before .before .if3 .left, pre .0 .2, pre .0 .3)) (c .before .before .before .before .before .before .before .residue .ensures) left (omega (arith, left, c .before .before .before .if3 .left)) (sym (c .before .is-kept .ensures) ∙ c .if4 .left) (sym (c .before .before .before .before .before .before .before .before .before .is-wanted .ensures) ∙ not-false _ (c .before .before .before .before .before .before .before .before .if1 .left))
 
 pub note-spec : {M : Type 1} → statement M
 note-spec =
