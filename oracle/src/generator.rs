@@ -4,7 +4,7 @@
 use crate::{
     calls::{list, needs},
     job::{LIMIT, MAX_RESIDUES, NONE, RawAtom, RawJob, decode, fix_length},
-    jobs::{chaos, job},
+    jobs::{chaos, job, out_of_order},
     pdb_files,
     protocol::{BUILD, MOST, MOST_BYTES, PLAN, Request, TUBE, encode_words},
     rng::Rng,
@@ -136,6 +136,10 @@ fn lengths(rng: &mut Rng, bytes: &[u8]) -> [u32; 8] {
 
 fn plan_request(rng: &mut Rng) -> Request {
     let bytes = job_bytes(rng);
+    plan_of(rng, bytes)
+}
+
+fn plan_of(rng: &mut Rng, bytes: Vec<u8>) -> Request {
     let mut lengths = lengths(rng, &bytes);
     // A plan is lent no output buffer: whatever is said of them changes nothing.
     let output = if rng.percent(90) { 0 } else { 3 };
@@ -264,6 +268,26 @@ pub fn file_request(seed: u64, index: u64) -> Request {
     pdb_files::request(&mut Rng::new(seed, index))
 }
 
+/// A build or a plan of a job whose atoms stand out of order.
+pub fn order_request(seed: u64, index: u64) -> Request {
+    let mut rng = Rng::new(seed, index);
+    let rng = &mut rng;
+    let mut job = job(rng);
+    out_of_order(rng, &mut job);
+    let mut bytes = job.bytes();
+    bytes.truncate(MOST_BYTES);
+    if rng.percent(20) {
+        return plan_of(rng, bytes);
+    }
+    let lengths = lengths(rng, &bytes);
+    Request {
+        call: BUILD,
+        lengths,
+        k: 0,
+        bytes,
+    }
+}
+
 /// Which requests are made.
 #[derive(Clone, Copy, Debug, PartialEq, Eq)]
 pub enum Kind {
@@ -272,6 +296,8 @@ pub enum Kind {
     /// Call 4.
     Files,
     Both,
+    /// Calls 1 and 2, on atoms out of order.
+    Orders,
 }
 
 impl Kind {
@@ -280,6 +306,7 @@ impl Kind {
             "jobs" => Some(Kind::Jobs),
             "files" => Some(Kind::Files),
             "both" => Some(Kind::Both),
+            "orders" => Some(Kind::Orders),
             _ => None,
         }
     }
@@ -288,6 +315,7 @@ impl Kind {
     pub fn request(self, seed: u64, index: u64) -> Request {
         match self {
             Kind::Files => file_request(seed, index),
+            Kind::Orders => order_request(seed, index),
             Kind::Both if index % 3 == 2 => file_request(seed, index),
             _ => job_request(seed, index),
         }

@@ -150,6 +150,36 @@ fn disorder(rng: &mut Rng, job: &mut RawJob) {
     }
 }
 
+/// A few segments between atoms of the job, and the atoms in another order, or with serials that begin anew.
+pub fn out_of_order(rng: &mut Rng, job: &mut RawJob) {
+    let n = job.atoms.len();
+    if n < 2 {
+        return;
+    }
+    for _ in 0..rng.below(5) {
+        let (i, j) = (rng.below(n as u64) as usize, rng.below(n as u64) as usize);
+        let (a, b) = (job.atoms[i].serial, job.atoms[j].serial);
+        job.segments
+            .push(segment(rng.below(3) as u8, a.min(b), a.max(b)));
+    }
+    let i = rng.below(n as u64) as usize;
+    match rng.below(7) {
+        0 => job.atoms.rotate_left(i),
+        1 => (0..n).for_each(|k| job.atoms.swap(k, rng.below(n as u64) as usize)),
+        2 => job.atoms.reverse(),
+        3 => job.atoms[i..].reverse(),
+        4 => {
+            let moved = job.atoms.remove(i);
+            job.atoms.push(moved);
+        }
+        5 => job.atoms[i].serial = 0,
+        _ => {
+            let again = rng.between(1, n as u64) as u32;
+            job.atoms.iter_mut().for_each(|a| a.serial %= again);
+        }
+    }
+}
+
 /// A coordinate out of a small set, so that equal points, straight lines and zeros of both signs are common.
 fn odd_coordinate(rng: &mut Rng) -> f64 {
     match rng.below(12) {

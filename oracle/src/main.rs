@@ -23,7 +23,7 @@ use oracle::{
 const USAGE: &str = "usage:
   oracle answer [--wrong MISTAKE]                              requests on standard input, answers on standard output
   oracle compare [--kind KIND] [--jobs N] [--seed S] [--out DIR] -- PROGRAM [ARGUMENT ...]   compares PROGRAM with the oracle
-  oracle generate [--kind KIND] [--jobs N] [--seed S]          requests on standard output; KIND is jobs, files or both
+  oracle generate [--kind KIND] [--jobs N] [--seed S]          requests on standard output; KIND is jobs, files, both or orders
   oracle record --out DIR                                      writes the recorded answers
   oracle read-pdb [FILE]                                       the job of a PDB file (or of standard input) on standard output
   oracle plan-text                                             a job on standard input; prints what ribbon-plan prints

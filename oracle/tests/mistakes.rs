@@ -1,8 +1,9 @@
 //! Each deliberate mistake is caught by the generator's requests: within some thousands of them the wrong answer differs.
 
 use oracle::{
-    generator::request,
-    protocol::answer,
+    generator::{Kind, request},
+    job::RawJob,
+    protocol::{Request, answer},
     wrong::{self, Mutation},
 };
 
@@ -29,6 +30,22 @@ fn every_mistake_is_caught() {
         .map(|m| m.what())
         .collect();
     assert!(missed.is_empty(), "not caught within {WITHIN}: {missed:?}");
+}
+
+/// What a segment takes, and from which atoms, shows on atoms out of order too.
+#[test]
+fn mistakes_in_segments_show_out_of_order() {
+    let requests: Vec<_> = (0..1500).map(|i| Kind::Orders.request(SEED, i)).collect();
+    let falls = |r: &&Request| {
+        RawJob::of(&r.bytes)
+            .is_some_and(|job| job.atoms.windows(2).any(|w| w[1].serial < w[0].serial))
+    };
+    let falling: Vec<&Request> = requests.iter().filter(falls).collect();
+    assert!(falling.len() > 600, "{} of 1500", falling.len());
+    for m in [Mutation::FirstCaInSegments, Mutation::FirstOInSegments] {
+        let shows = |r: &&Request| wrong::with(Some(m), || answer(r)) != answer(r);
+        assert!(falling.iter().any(shows), "{}", m.what());
+    }
 }
 
 #[test]
