@@ -54,6 +54,8 @@ enum Serials {
     Ascend,
     /// All but the last atom's do, which is 0.
     LastIsLow,
+    /// All but the first atom's do, which is above all others: nothing but that one atom ascends from the front.
+    FirstIsHigh,
     /// The second half of the atoms stands before the first.
     TwoRuns,
     Shuffled,
@@ -80,6 +82,7 @@ fn job(residues: u16, present: u16, each: u32, segments: u16, serials: Serials) 
     match serials {
         Serials::Ascend => {}
         Serials::LastIsLow => atoms.last_mut().expect("an atom").serial = 0,
+        Serials::FirstIsHigh => atoms[0].serial = u32::MAX,
         Serials::TwoRuns => atoms.rotate_left(n / 2),
         Serials::Shuffled => (0..n).for_each(|i| atoms.swap(i, (i * 7919 + 13) % n)),
     }
@@ -185,6 +188,7 @@ fn main() {
     }
     for (words, serials) in [
         ("where the last atom's serial is low", Serials::LastIsLow),
+        ("where the first atom's serial is high", Serials::FirstIsHigh),
         ("where the atoms stand in two runs", Serials::TwoRuns),
         ("where they are shuffled", Serials::Shuffled),
     ] {
