@@ -17,6 +17,5 @@ add-spec =
     (λ c. (holding-full _ _ _ _ (c .if1 .taken), (c .before .pre, omega arith, omega arith)))
     (λ c κs. search needs)
     returns-2
-    (λ c κs. search needs)
-    (λ c. search needs)
+    (λ c κs. search needs) (λ c. search needs)
     returns-3)

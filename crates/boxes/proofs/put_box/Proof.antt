@@ -38,16 +38,9 @@ put-box-spec =
     μ-loop
     (λ c κs. search needs)
     loop-holds
-    (λ c. search needs)
-    (λ c. search needs)
-    (λ c κs. search needs)
-    (λ c κs. search needs)
-    (λ c κs. search needs)
-    (λ c. search needs)
-    (λ c. search needs)
+    (λ c. search needs) (λ c. search needs) (λ c κs. search needs) (λ c κs. search needs) (λ c κs. search needs) (λ c. search needs) (λ c. search needs)
     loop-again
-    (λ c κs. search needs)
-    (λ c. search needs)
+    (λ c κs. search needs) (λ c. search needs)
     (λ c κs. omega (arith, kept _ _ _ (c .before .before .before .put-vec .ensures)))
     (λ c. search needs)
     returns)

@@ -10,6 +10,5 @@ triangle-count-spec =
     tie.close
     (tie.spec
     (λ c. sym (no-tube 8 8 0 (c .before .args .n) (c .if1 .taken) .2))
-    (λ c. search needs)
-    (λ c. search needs)
+    (λ c. search needs) (λ c. search needs)
     (λ c. sym (ribbon-counts (c .before .args .n) (c .if1 .left) .2)))

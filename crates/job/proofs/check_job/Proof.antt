@@ -17,9 +17,7 @@ pub check-job-spec : {M : Type 1} → statement M
 check-job-spec =
     tie.close
     (tie.spec
-    (λ c κs. search needs)
-    (λ c. search needs)
-    (λ c. search needs)
+    (λ c κs. search needs) (λ c. search needs) (λ c. search needs)
     (λ c κs. sizes-whole _ _ (sym (c .before .before .before .check-sizes .ensures) ∙ c .before .s2 .given .1))
     returns
     returns-2)

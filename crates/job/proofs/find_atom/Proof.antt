@@ -29,10 +29,8 @@ find-atom-spec =
     μ-loop
     (λ c. search needs)
     (λ c. (search needs, below-none _))
-    (λ c κs. search needs)
-    (λ c. search needs)
+    (λ c κs. search needs) (λ c. search needs)
     returns
-    (λ c. search needs)
-    (λ c. search needs)
+    (λ c. search needs) (λ c. search needs)
     loop-again
     (λ c. sym (first-none _ _ (λ k l. c .before .loop .inv .1 k (omega arith)))))

@@ -34,11 +34,8 @@ find-visibility-spec =
     μ-loop
     (λ c. search needs)
     (λ c. (search needs, below-none _))
-    (λ c. search needs)
-    (λ c. search needs)
-    (λ c. search needs)
+    (λ c. search needs) (λ c. search needs) (λ c. search needs)
     returns
-    (λ c. search needs)
-    (λ c. search needs)
+    (λ c. search needs) (λ c. search needs)
     (λ c. (search needs, below-more _ _ (c .before .before .before .loop .inv .1) (le-ltb _ _ (c .if1 .left))))
     returns-2)

@@ -35,8 +35,7 @@ put-visible-spec =
     loop-holds
     (λ c. search needs)
     (λ c. omega (arith, kept _ _ _ (c .before .loop .inv .1)))
-    (λ c. search needs)
-    (λ c. search needs)
+    (λ c. search needs) (λ c. search needs)
     loop-again
     (λ c. kept _ _ _ (c .before .loop .inv .1))
     returns)

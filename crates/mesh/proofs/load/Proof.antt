@@ -43,15 +43,11 @@ load-spec =
     Inv-loop
     μ-loop
     loop-holds
-    (λ c. search needs)
-    (λ c. search needs)
-    (λ c. search needs)
-    (λ c. search needs)
+    (λ c. search needs) (λ c. search needs) (λ c. search needs) (λ c. search needs)
     (λ c. omega (arith, c .shared-slice-known3 .given (c .before .before .before .loop .i)))
     spot-requires
     put-vec-requires
-    (λ c. search needs)
-    (λ c. search needs)
+    (λ c. search needs) (λ c. search needs)
     loop-again
     (λ c. kept _ _ _ (c .before .loop .inv .1))
     returns)

@@ -15,10 +15,8 @@ pub is-present-spec : {M : Type 1} → statement M
 is-present-spec =
     tie.close
     (tie.spec
-    (λ c κs. search needs)
-    (λ c. search needs)
+    (λ c κs. search needs) (λ c. search needs)
     (λ c. omega (arith, c .before .find .ensures .1, c .before .before .before .pre .0 .index .few))
     returns
-    (λ c κs. search needs)
-    (λ c. search needs)
+    (λ c κs. search needs) (λ c. search needs)
     returns-3)

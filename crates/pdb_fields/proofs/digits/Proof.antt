@@ -60,14 +60,12 @@ digits-spec =
     Inv-loop
     μ-loop
     (λ c. (omega arith, omega arith, refl, refl, c .before .pre .2))
-    (λ c. search needs)
-    (λ c κs. search needs)
+    (λ c. search needs) (λ c κs. search needs)
     mul-value
     (λ c. digit-from _ (sym (c .before .is-digit .ensures) ∙ c .if1 .taken))
     cast-value
     add-value
-    (λ c. search needs)
-    (λ c. search needs)
+    (λ c. search needs) (λ c. search needs)
     loop-again
     returns
     returns-2)

@@ -30,7 +30,6 @@ past-blanks-spec =
     (λ c. (omega arith, omega arith, refl))
     (λ c. search needs)
     returns
-    (λ c. search needs)
-    (λ c. search needs)
+    (λ c. search needs) (λ c. search needs)
     loop-again
     (λ c. (stop-over isBlank _ _ _ (c .before .loop .inv .2) (c .loop-test .left), omega arith)))

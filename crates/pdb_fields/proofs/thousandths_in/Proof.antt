@@ -26,9 +26,7 @@ pub thousandths-in-spec : {M : Type 1} → statement M
 thousandths-in-spec =
     tie.close
     (tie.spec
-    (λ c κs. search needs)
-    (λ c κs. search needs)
-    (λ c. search needs)
+    (λ c κs. search needs) (λ c κs. search needs) (λ c. search needs)
     (λ c κs. (omega arith, omega arith, ten-pos _))
     (λ c. search needs)
     returns

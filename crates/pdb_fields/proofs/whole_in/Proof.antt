@@ -19,9 +19,7 @@ pub whole-in-spec : {M : Type 1} → statement M
 whole-in-spec =
     tie.close
     (tie.spec
-    (λ c κs. search needs)
-    (λ c κs. search needs)
-    (λ c. search needs)
+    (λ c κs. search needs) (λ c κs. search needs) (λ c. search needs)
     (λ c κs. (omega arith, omega arith, ten-pos _))
     (λ c. search needs)
     returns

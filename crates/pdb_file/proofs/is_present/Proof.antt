@@ -7,8 +7,6 @@ pub is-present-spec : {M : Type 1} → statement M
 is-present-spec =
     tie.close
     (tie.spec
-    (λ c κs. search needs)
-    (λ c. search needs)
-    (λ c. search needs)
+    (λ c κs. search needs) (λ c. search needs) (λ c. search needs)
     (λ c. simp (sym (c .before .before .first-atom .ensures) ∙ c .enum-told .given .1))
     (λ c. simp (sym (c .before .before .first-atom .ensures) ∙ c .enum-told2 .given .1)))

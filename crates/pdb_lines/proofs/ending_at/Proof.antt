@@ -25,7 +25,6 @@ ending-at-spec =
     returns-2
     (λ c. search needs)
     returns-3
-    (λ c. search needs)
-    (λ c. search needs)
+    (λ c. search needs) (λ c. search needs)
     returns-4
     returns-5)

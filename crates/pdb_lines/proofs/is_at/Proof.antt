@@ -26,11 +26,8 @@ is-at-spec =
     (λ c. search needs)
     (λ c. named-short _ _ _ (c .if1 .taken))
     (λ c. (omega arith, below-none _))
-    (λ c. search needs)
-    (λ c. search needs)
-    (λ c. search needs)
+    (λ c. search needs) (λ c. search needs) (λ c. search needs)
     returns-2
-    (λ c. search needs)
-    (λ c. search needs)
+    (λ c. search needs) (λ c. search needs)
     (λ c. (omega arith, below-more _ _ (c .before .before .before .before .loop .inv .1) (c .if2 .left)))
     (λ c. named-yes _ _ _ (c .before .before .if1 .left) (λ k b. c .before .loop .inv .1 k (omega arith))))

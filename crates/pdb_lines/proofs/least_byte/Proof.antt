@@ -22,10 +22,6 @@ least-byte-spec =
     Inv-loop
     μ-loop
     (λ c. (omega arith, λ j h. absurd (omega arith)))
-    (λ c. search needs)
-    (λ c. search needs)
-    (λ c κs. search needs)
-    (λ c. search needs)
-    (λ c. search needs)
+    (λ c. search needs) (λ c. search needs) (λ c κs. search needs) (λ c. search needs) (λ c. search needs)
     loop-again
     (λ c. λ k h. c .before .loop .inv .1 k (omega (arith, c .loop-test .left))))

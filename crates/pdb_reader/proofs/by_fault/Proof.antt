@@ -6,11 +6,7 @@ pub by-fault-spec : {M : Type 1} → statement M
 by-fault-spec =
     tie.close
     (tie.spec
-    (λ c. search needs)
-    (λ c. search needs)
-    (λ c. search needs)
-    (λ c. search needs)
-    (λ c. search needs)
+    (λ c. search needs) (λ c. search needs) (λ c. search needs) (λ c. search needs) (λ c. search needs)
     (λ c. rw (c .before .f .given .1))
     (λ c. rw (c .before .f2 .given .1))
     (λ c. rw (c .before .f3 .given .1)))

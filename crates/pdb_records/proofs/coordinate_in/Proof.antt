@@ -10,9 +10,6 @@ pub coordinate-in-spec : {M : Type 1} → statement M
 coordinate-in-spec =
     tie.close
     (tie.spec
-    (λ c κs. search needs)
-    (λ c. search needs)
-    (λ c. search needs)
-    (λ c κs. search needs)
+    (λ c κs. search needs) (λ c. search needs) (λ c. search needs) (λ c κs. search needs)
     (λ c. simp (sym (c .before .before .thousandths-in .ensures) ∙ c .enum-told .given .1))
     returns-2)

@@ -13,9 +13,7 @@ pub serial-in-spec : {M : Type 1} → statement M
 serial-in-spec =
     tie.close
     (tie.spec
-    (λ c κs. search needs)
-    (λ c. search needs)
-    (λ c. search needs)
+    (λ c κs. search needs) (λ c. search needs) (λ c. search needs)
     returns
     (λ c. search needs)
     (λ c. simp (sym (c .before .before .whole-in .ensures) ∙ c .enum-told .given .1))

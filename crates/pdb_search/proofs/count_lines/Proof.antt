@@ -32,8 +32,7 @@ count-lines-spec =
     μ-loop
     (λ c. counting-start _ _)
     (λ c κs. c .loop .inv .inside)
-    (λ c. search needs)
-    (λ c. search needs)
+    (λ c. search needs) (λ c. search needs)
     returns
     add-n
     loop-less

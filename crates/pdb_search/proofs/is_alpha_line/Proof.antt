@@ -15,6 +15,5 @@ is-alpha-line-spec =
     (tie.spec
     (λ c κs. search needs)
     (λ c. simp (sym (c .before .is-at .ensures) ∙ not-true _ (c .if1 .taken)))
-    (λ c κs. search needs)
-    (λ c κs. search needs)
+    (λ c κs. search needs) (λ c κs. search needs)
     returns-2)

@@ -14,8 +14,7 @@ pub is-end-spec : {M : Type 1} → statement M
 is-end-spec =
     tie.close
     (tie.spec
-    (λ c. search needs)
-    (λ c κs. search needs)
+    (λ c. search needs) (λ c κs. search needs)
     (λ c. simp (sym (c .before .is-at .ensures) ∙ not-true _ (c .if1 .taken)))
     returns-2
     (λ c. search needs)

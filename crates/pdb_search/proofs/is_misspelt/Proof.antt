@@ -13,6 +13,5 @@ is-misspelt-spec =
     (tie.spec
     (λ c κs. search needs)
     (λ c. simp (sym (c .before .has-letters .ensures) ∙ not-true _ (c .if1 .taken)))
-    (λ c κs. search needs)
-    (λ c κs. search needs)
+    (λ c κs. search needs) (λ c κs. search needs)
     returns-2)

@@ -53,10 +53,7 @@ survey-spec =
     (λ c κs. c .loop .inv .inside)
     (λ c. search needs)
     returns
-    (λ c. search needs)
-    (λ c κs. search needs)
-    (λ c κs. search needs)
-    (λ c κs. search needs)
+    (λ c. search needs) (λ c κs. search needs) (λ c κs. search needs) (λ c κs. search needs)
     add-ahead
     note-requires
     add-line

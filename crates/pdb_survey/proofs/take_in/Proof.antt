@@ -31,19 +31,12 @@ take-in-spec =
     tie.close
     (tie.spec
     (λ c. (λ l N. noted-over _ _ _ _ _ l N _ (c .if1 .taken), c .before .pre .1, omega arith))
-    (λ c. search needs)
-    (λ c κs. search needs)
-    (λ c κs. search needs)
+    (λ c. search needs) (λ c κs. search needs) (λ c κs. search needs)
     add-ends
     mul-ends
     element-write-ends
     returns-2
     returns-3
     enter-requires
-    (λ c. search needs)
-    (λ c. search needs)
-    (λ c. search needs)
-    (λ c. search needs)
-    (λ c. search needs)
-    (λ c. search needs)
+    (λ c. search needs) (λ c. search needs) (λ c. search needs) (λ c. search needs) (λ c. search needs) (λ c. search needs)
     returns-4)

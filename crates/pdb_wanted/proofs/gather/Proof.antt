@@ -28,9 +28,7 @@ gather-spec =
     Inv-loop
     μ-loop
     (λ c. (c .before .pre .0, c .before .pre .1))
-    (λ c κs. search needs)
-    (λ c. search needs)
-    (λ c. search needs)
+    (λ c κs. search needs) (λ c. search needs) (λ c. search needs)
     (λ c. c .before .before .before .before .loop .inv .1)
     (λ c κs. c .before .before .before .before .before .before .before .loop .inv .1)
     loop-less

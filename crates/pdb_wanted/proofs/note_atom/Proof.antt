@@ -12,12 +12,7 @@ pub note-atom-spec : {M : Type 1} → statement M
 note-atom-spec =
     tie.close
     (tie.spec
-    (λ c. search needs)
-    (λ c κs. search needs)
-    (λ c. search needs)
-    (λ c. search needs)
-    (λ c. search needs)
-    (λ c. search needs)
+    (λ c. search needs) (λ c κs. search needs) (λ c. search needs) (λ c. search needs) (λ c. search needs) (λ c. search needs)
     returns
     (λ c. λ l W. noted-none _ _ _ _ l _ (ap atomsIn (c .enum-told .given .1)) W)
     (λ c. λ l W. noted-none _ _ _ _ l _ (ap atomsIn (c .enum-told2 .given .1)) W)

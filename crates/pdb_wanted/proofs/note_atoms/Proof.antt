@@ -34,8 +34,7 @@ note-atoms-spec =
     μ-loop
     (λ c. noting-start _ _ _ _ _ (c .before .pre))
     (λ c κs. c .loop .inv .inside)
-    (λ c. search needs)
-    (λ c. search needs)
+    (λ c. search needs) (λ c. search needs)
     returns
     (λ c κs. c .before .before .before .before .before .loop .inv .wanted .index)
     loop-less

@@ -11,8 +11,7 @@ pub note-name-spec : {M : Type 1} → statement M
 note-name-spec =
     tie.close
     (tie.spec
-    (λ c κs. search needs)
-    (λ c. search needs)
+    (λ c κs. search needs) (λ c. search needs)
     (λ c. omega (arith, c .before .find .ensures .1, c .before .before .pre .few))
     returns
     (λ c. λ l W. noted-not _ _ _ _ l W _ _ (c .before .find .ensures .0) (c .if1 .left)))

@@ -14,9 +14,7 @@ pub refresh-spec : {M : Type 1} → statement M
 refresh-spec =
     tie.close
     (tie.spec
-    (λ c κs. search needs)
-    (λ c. search needs)
-    (λ c κs. search needs)
+    (λ c κs. search needs) (λ c. search needs) (λ c κs. search needs)
     gather-requires
     (λ c κs. unknown _ _ _ (c .before .before .before .before .gather .ensures))
     returns-2)

@@ -32,10 +32,7 @@ pub run-build-spec : {M : Type 1} → statement M
 run-build-spec =
     tie.close
     (tie.spec
-    (λ c κs. search needs)
-    (λ c κs. search needs)
-    (λ c κs. search needs)
-    (λ c κs. search needs)
+    (λ c κs. search needs) (λ c κs. search needs) (λ c κs. search needs) (λ c κs. search needs)
     same-length
     same-length-2
     same-length-3

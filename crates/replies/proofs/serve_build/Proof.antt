@@ -34,10 +34,7 @@ pub serve-build-spec : {M : Type 1} → statement M
 serve-build-spec =
     tie.close
     (tie.spec
-    (λ c κs. search needs)
-    (λ c κs. search needs)
-    (λ c κs. search needs)
-    (λ c κs. search needs)
+    (λ c κs. search needs) (λ c κs. search needs) (λ c κs. search needs) (λ c κs. search needs)
     same-length
     same-length-2
     same-length-3

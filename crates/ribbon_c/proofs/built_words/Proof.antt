@@ -10,11 +10,6 @@ pub built-words-spec : {M : Type 1} → statement M
 built-words-spec =
     tie.close
     (tie.spec
-    (λ c. search needs)
-    (λ c κs. search needs)
-    (λ c κs. search needs)
-    (λ c κs. search needs)
-    (λ c. search needs)
-    (λ c κs. search needs)
+    (λ c. search needs) (λ c κs. search needs) (λ c κs. search needs) (λ c κs. search needs) (λ c. search needs) (λ c κs. search needs)
     returns
     (λ c. c .refusal-words .ensures ∙ rw (c .before .before .a2 .given .1)))

@@ -7,9 +7,6 @@ pub read-words-spec : {M : Type 1} → statement M
 read-words-spec =
     tie.close
     (tie.spec
-    (λ c. search needs)
-    (λ c κs. search needs)
-    (λ c. search needs)
-    (λ c κs. search needs)
+    (λ c. search needs) (λ c κs. search needs) (λ c. search needs) (λ c κs. search needs)
     (λ c. rw (c .word .ensures, c .before .before .a .given .1))
     (λ c. c .refusal-words .ensures ∙ rw (c .before .before .a2 .given .1)))

@@ -42,12 +42,7 @@ answer-next-spec =
     (tie.spec
     (λ c. search needs)
     slice-aggregate-fill
-    (λ c κs. search needs)
-    (λ c κs. search needs)
-    (λ c κs. search needs)
-    (λ c. search needs)
-    (λ c. search needs)
-    (λ c. search needs)
+    (λ c κs. search needs) (λ c κs. search needs) (λ c κs. search needs) (λ c. search needs) (λ c. search needs) (λ c. search needs)
     slice-aggregate-answer
     answer-requires
     (λ c κs. search needs)

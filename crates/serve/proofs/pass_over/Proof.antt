@@ -19,15 +19,10 @@ pass-over-spec =
     Inv-loop
     μ-loop
     (λ c. refl)
-    (λ c κs. search needs)
-    (λ c κs. search needs)
-    (λ c. search needs)
-    (λ c. search needs)
+    (λ c κs. search needs) (λ c κs. search needs) (λ c. search needs) (λ c. search needs)
     (λ c. omega arith)
     (λ c. omega arith)
     (λ c. search needs)
     (λ c. omega arith)
     (λ c. sym (length-take-le _ _ (omega arith)))
-    (λ c κs. search needs)
-    (λ c. search needs)
-    (λ c. search needs))
+    (λ c κs. search needs) (λ c. search needs) (λ c. search needs))

@@ -48,9 +48,7 @@ serve-all-spec =
     slice-aggregate-serve-10
     slice-aggregate-serve-11
     serve-requires
-    (λ c. search needs)
-    (λ c. search needs)
-    (λ c κs. search needs)
+    (λ c. search needs) (λ c. search needs) (λ c κs. search needs)
     (λ c. tt)
     (λ c. tt)
     (λ c. omega arith)

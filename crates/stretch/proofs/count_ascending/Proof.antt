@@ -31,13 +31,8 @@ count-ascending-spec =
     μ-loop
     (λ c. search needs)
     (λ c. (omega arith, ascends-none _))
-    (λ c. search needs)
-    (λ c. search needs)
-    (λ c κs. search needs)
-    (λ c κs. search needs)
-    (λ c. search needs)
+    (λ c. search needs) (λ c. search needs) (λ c κs. search needs) (λ c κs. search needs) (λ c. search needs)
     returns
-    (λ c. search needs)
-    (λ c. search needs)
+    (λ c. search needs) (λ c. search needs)
     (λ c. (omega arith, ascends-more _ _ (c .before .before .before .before .loop .inv .1) (omega arith)))
     returns-2)

@@ -32,11 +32,7 @@ count-below-spec =
     Inv-loop
     μ-loop
     (λ c. (omega arith, (omega arith, (λ a l. absurd (omega arith), λ a l m. absurd (omega arith)))))
-    (λ c. search needs)
-    (λ c. search needs)
-    (λ c κs. search needs)
-    (λ c. search needs)
-    (λ c. search needs)
+    (λ c. search needs) (λ c. search needs) (λ c κs. search needs) (λ c. search needs) (λ c. search needs)
     loop-again
     (λ c. search needs)
     loop-again-2

@@ -31,10 +31,8 @@ first-inside-spec =
     Inv-loop
     μ-loop
     (λ c. (omega arith, λ a l m. absurd (omega arith)))
-    (λ c κs. search needs)
-    (λ c κs. search needs)
+    (λ c κs. search needs) (λ c κs. search needs)
     returns
-    (λ c. search needs)
-    (λ c. search needs)
+    (λ c. search needs) (λ c. search needs)
     loop-again
     (λ c. (omega arith, λ l. l, λ a l m. c .before .loop .inv .1 a l (omega arith), λ l. absurd (omega arith))))

@@ -27,11 +27,8 @@ past-inside-spec =
     μ-loop
     (λ c. search needs)
     (λ c. (omega arith, omega arith, λ a l m. absurd (omega arith)))
-    (λ c. search needs)
-    (λ c κs. search needs)
-    (λ c κs. search needs)
+    (λ c. search needs) (λ c κs. search needs) (λ c κs. search needs)
     (λ c. (omega arith, omega arith, c .before .before .before .before .loop .inv .2))
-    (λ c. search needs)
-    (λ c. search needs)
+    (λ c. search needs) (λ c. search needs)
     loop-again
     (λ c. (omega arith, omega arith, λ a l m. c .before .loop .inv .2 a (omega arith) m)))

@@ -57,12 +57,10 @@ to-chains-spec =
     (λ c. omega (arith, c .slice-known2 .given (c .before .before .loop .i)))
     (λ c. search needs)
     chain-requires
-    (λ c. search needs)
-    (λ c. search needs)
+    (λ c. search needs) (λ c. search needs)
     mul-t
     (λ c. omega (arith, c .before .before .before .before .loop .inv .1 .size))
-    (λ c. search needs)
-    (λ c. search needs)
+    (λ c. search needs) (λ c. search needs)
     loop-again
     (λ c. c .before .loop .inv .1 .size)
     returns)

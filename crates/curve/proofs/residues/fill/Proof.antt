@@ -36,8 +36,7 @@ fill-spec =
     loop-holds
     (λ c. search needs)
     (λ c κs. omega (arith, kept _ _ _ (c .before .before .loop .inv .1)))
-    (λ c. search needs)
-    (λ c. search needs)
+    (λ c. search needs) (λ c. search needs)
     loop-again
     (λ c. kept _ _ _ (c .before .loop .inv .1))
     returns)

@@ -30,9 +30,7 @@ pub lay-course-spec : {M : Type 1} → statement M
 lay-course-spec =
     tie.close
     (tie.spec
-    (λ c. search needs)
-    (λ c κs. search needs)
-    (λ c. search needs)
+    (λ c. search needs) (λ c κs. search needs) (λ c. search needs)
     slice-aggregate-straighten
     straighten-requires
     (λ c. search needs)

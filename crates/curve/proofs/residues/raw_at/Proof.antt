@@ -13,9 +13,6 @@ raw-at-spec =
     (tie.spec
     (λ c. search needs)
     (λ c. sym (length-take-le _ _ (omega arith)))
-    (λ c. search needs)
-    (λ c. search needs)
-    (λ c. search needs)
-    (λ c. search needs)
+    (λ c. search needs) (λ c. search needs) (λ c. search needs) (λ c. search needs)
     (λ c κs. (omega arith, simp length-take (omega arith), omega arith, simp (rest, length-drop) (omega arith)))
     (λ c. rw rest at (c .raw-of .ensures)))

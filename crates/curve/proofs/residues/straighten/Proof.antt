@@ -19,10 +19,7 @@ pub straighten-spec : {M : Type 1} → statement M
 straighten-spec =
     tie.close
     (tie.spec
-    (λ c. search needs)
-    (λ c. search needs)
-    (λ c. search needs)
-    (λ c κs. search needs)
+    (λ c. search needs) (λ c. search needs) (λ c. search needs) (λ c κs. search needs)
     returns
     returns-2
     (λ c. search needs)

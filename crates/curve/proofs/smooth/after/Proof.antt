@@ -7,7 +7,6 @@ pub after-spec : {M : Type 1} → statement M
 after-spec =
     tie.close
     (tie.spec
-    (λ c. search needs)
-    (λ c. search needs)
+    (λ c. search needs) (λ c. search needs)
     (λ c. (rw (lt-ltb _ _ (c .if1 .taken)), search needs, search needs))
     (λ c. (rw (le-ltb _ _ (c .if1 .left)), search needs, search needs)))

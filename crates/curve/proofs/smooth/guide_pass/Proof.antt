@@ -45,11 +45,9 @@ guide-pass-spec =
     (λ c κs. omega (arith, kept _ _ _ (c .before .before .loop .inv .2)))
     (λ c κs. search needs)
     (λ c κs. omega (arith, kept _ _ _ (c .before .before .before .before .before .loop .inv .2)))
-    (λ c. search needs)
-    (λ c κs. search needs)
+    (λ c. search needs) (λ c κs. search needs)
     put-vec-requires
-    (λ c. search needs)
-    (λ c. search needs)
+    (λ c. search needs) (λ c. search needs)
     loop-again
     (λ c. kept _ _ _ (c .before .loop .inv .2))
     returns)

@@ -39,17 +39,13 @@ position-pass-spec =
     μ-loop
     (λ c κs. search needs)
     loop-holds
-    (λ c. search needs)
-    (λ c. search needs)
+    (λ c. search needs) (λ c. search needs)
     (λ c κs. omega (arith, kept _ _ _ (c .before .before .loop .inv .2)))
     (λ c. search needs)
     (λ c κs. omega (arith, kept _ _ _ (c .before .before .before .before .loop .inv .2)))
-    (λ c. search needs)
-    (λ c. search needs)
-    (λ c κs. search needs)
+    (λ c. search needs) (λ c. search needs) (λ c κs. search needs)
     (λ c κs. omega (arith, kept _ _ _ (c .before .before .before .before .before .before .before .loop .inv .2)))
-    (λ c. search needs)
-    (λ c. search needs)
+    (λ c. search needs) (λ c. search needs)
     loop-again
     (λ c. kept _ _ _ (c .before .loop .inv .2))
     returns)

@@ -40,8 +40,7 @@ smooth-guides-spec =
     μ-loop
     loop-holds
     guide-pass-requires
-    (λ c. search needs)
-    (λ c. search needs)
+    (λ c. search needs) (λ c. search needs)
     loop-again
     (λ c. c .before .loop .inv .1)
     returns)

@@ -7,9 +7,5 @@ pub nearest-div-spec : {M : Type 1} → statement M
 nearest-div-spec =
     tie.close
     (tie.spec
-    (λ c. search needs)
-    (λ c. search needs)
-    (λ c. search needs)
-    (λ c. search needs)
-    (λ c. search needs)
+    (λ c. search needs) (λ c. search needs) (λ c. search needs) (λ c. search needs) (λ c. search needs)
     (λ c. closest-add (c .args .m) (c .args .u) (c .pre .1) (c .pre .2)))

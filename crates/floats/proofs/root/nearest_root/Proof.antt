@@ -12,10 +12,5 @@ nearest-root-spec =
     tie.close
     (tie.spec
     (λ c. omega (arith, sq-le (c .args .start) (omega arith)))
-    (λ c. search needs)
-    (λ c κs. search needs)
-    (λ c. search needs)
-    (λ c. search needs)
-    (λ c κs. search needs)
-    (λ c. search needs)
+    (λ c. search needs) (λ c κs. search needs) (λ c. search needs) (λ c. search needs) (λ c κs. search needs) (λ c. search needs)
     returns-3)

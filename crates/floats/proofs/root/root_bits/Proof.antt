@@ -13,10 +13,6 @@ root-bits-spec =
     (tie.spec
     (λ c κs. search needs)
     (λ c κs. between-is (c .before .before .args .b) (sym (c .before .is-near-one .ensures) ∙ c .if1 .taken))
-    (λ c. search needs)
-    (λ c κs. search needs)
-    (λ c. search needs)
+    (λ c. search needs) (λ c κs. search needs) (λ c. search needs)
     (λ c. at-zero ∙ ap (λ (x : ℕ). toBits binary32 (root binary32 (ofBits binary32 x))) (sym (c .if3 .taken)))
-    (λ c κs. search needs)
-    (λ c κs. search needs)
-    (λ c. search needs))
+    (λ c κs. search needs) (λ c κs. search needs) (λ c. search needs))

@@ -40,9 +40,7 @@ pub value-spec : {M : Type 1} → statement M
 value-spec =
     tie.close
     (tie.spec
-    (λ c. search needs)
-    (λ c. search needs)
-    (λ c. search needs)
+    (λ c. search needs) (λ c. search needs) (λ c. search needs)
     mul-bend-2
     add-bend
     (λ c. search needs)
@@ -50,8 +48,6 @@ value-spec =
     mul-less-2
     mul-less-3
     add-less
-    (λ c. search needs)
-    (λ c. search needs)
-    (λ c. search needs)
+    (λ c. search needs) (λ c. search needs) (λ c. search needs)
     sub-result
     (λ c. search needs))

@@ -14,8 +14,5 @@ serial-at-spec =
     tie.close
     (tie.spec
     (λ c. (λ e. search needs, λ i e. absurd (omega (arith, c .if1 .taken))))
-    (λ c. search needs)
-    (λ c. search needs)
-    (λ c. search needs)
-    (λ c. search needs)
+    (λ c. search needs) (λ c. search needs) (λ c. search needs) (λ c. search needs)
     returns-2)

@@ -13,10 +13,7 @@ pub to-atom-spec : {M : Type 1} → statement M
 to-atom-spec =
     tie.close
     (tie.spec
-    (λ c κs. search needs)
-    (λ c. search needs)
-    (λ c. search needs)
-    (λ c. search needs)
+    (λ c κs. search needs) (λ c. search needs) (λ c. search needs) (λ c. search needs)
     (λ c. omega (arith, c .before .before .find .ensures .0, c .before .before .before .pre .1))
     (λ c. search needs)
     returns)

@@ -41,8 +41,7 @@ write-records-spec =
     μ-loop
     (λ c. writing-start _ _ _ _ (omega arith) (c .before .before .pre .2) (c .before .before .pre .3))
     (λ c κs. c .loop .inv .inside)
-    (λ c. search needs)
-    (λ c. search needs)
+    (λ c. search needs) (λ c. search needs)
     (λ c. c .before .before .before .loop .inv .same)
     returns
     write-record-requires

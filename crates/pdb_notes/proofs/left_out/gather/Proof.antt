@@ -52,8 +52,7 @@ gather-spec =
     μ-loop
     (λ c. gathering-start _ _ _ _ _ (c .before .pre))
     (λ c κs. c .loop .inv .inside)
-    (λ c. search needs)
-    (λ c. search needs)
+    (λ c. search needs) (λ c. search needs)
     returns
     sub-name-in
     part-name-in-start
@@ -63,8 +62,6 @@ gather-spec =
     sub-tell-new
     part-tell-new-start
     part-tell-new-end
-    (λ c. search needs)
-    (λ c. search needs)
-    (λ c κs. search needs)
+    (λ c. search needs) (λ c. search needs) (λ c κs. search needs)
     loop-less
     loop-again)

@@ -25,11 +25,9 @@ say-bytes-spec =
     (λ c. (omega arith, omega arith, refl))
     (λ c. search needs)
     (λ c κs. (c .before .before .before .loop .inv .0, c .before .before .before .loop .inv .2))
-    (λ c. search needs)
-    (λ c. search needs)
+    (λ c. search needs) (λ c. search needs)
     (λ c. (c .put-shown .ensures .0, omega arith, c .put-shown .ensures .1))
     (λ c κs. (c .before .before .loop .inv .0, c .before .before .loop .inv .2))
     (λ c. search needs)
     slice-aggregate-write-all
-    (λ c κs. search needs)
-    (λ c. search needs))
+    (λ c κs. search needs) (λ c. search needs))

@@ -19,7 +19,5 @@ put-capped-spec =
     (λ c. search needs)
     (λ c κs. less _ _ (c .before .before .before .before .before .before .pre) (omega arith))
     put-vertex-requires
-    (λ c. search needs)
-    (λ c. search needs)
-    (λ c. search needs)
+    (λ c. search needs) (λ c. search needs) (λ c. search needs)
     returns)

@@ -33,11 +33,9 @@ put-tags-spec =
     Inv-loop
     μ-loop
     loop-holds
-    (λ c. search needs)
-    (λ c. search needs)
+    (λ c. search needs) (λ c. search needs)
     (λ c. omega (arith, kept _ _ _ (c .before .loop .inv .1)))
-    (λ c. search needs)
-    (λ c. search needs)
+    (λ c. search needs) (λ c. search needs)
     loop-again
     (λ c. kept _ _ _ (c .before .loop .inv .1))
     returns)

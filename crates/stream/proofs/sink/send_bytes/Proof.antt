@@ -32,8 +32,7 @@ send-bytes-spec =
     (λ c κs. tt)
     (λ c. omega arith)
     (λ c. omega arith)
-    (λ c. search needs)
-    (λ c. search needs)
+    (λ c. search needs) (λ c. search needs)
     (λ c κs. simp (length-take, length-drop) (omega arith))
     advance-requires
     (λ c. omega arith)

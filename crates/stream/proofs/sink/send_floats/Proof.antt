@@ -33,8 +33,7 @@ send-floats-spec =
     (λ c. omega arith)
     (λ c. omega arith)
     (λ c. omega arith)
-    (λ c. search needs)
-    (λ c. search needs)
+    (λ c. search needs) (λ c. search needs)
     (λ c κs. simp (length-take, length-drop) (omega arith))
     (λ c. omega arith)
     advance-requires
