@@ -113,7 +113,8 @@ fn positive(t: u64) -> u32
 fn lifted(b: u32) -> u64
     requires { ⌜ (0 < b) × (b < 255 * 2 ^ 23) ⌝ }
     ensures { λ t. ⌜ (2 ^ 24 ≤ t) × (t < 400 * 2 ^ 23) ⌝ }
-    ensures { λ t. ⌜ toBits binary32 (nearestRoot binary32 ((t % 2 ^ 23 + 2 ^ 23) * 2 ^ (t / 2 ^ 23 + 21))) ≡ toBits binary32 (root binary32 (ofBits binary32 b)) ⌝ }
+    ensures { λ t. ⌜ toBits binary32 (nearestRoot binary32 ((t % 2 ^ 23 + 2 ^ 23) * 2 ^ (t / 2 ^ 23 + 21))) ≡ toBits binary32
+        (root binary32 (ofBits binary32 b)) ⌝ }
 {
     if b < 8388608 {
         let s = u32::leading_zeros(b) - 8;

@@ -59,7 +59,8 @@ fn load(b: &[u8], h: Head, atoms: &[u32], course: &mut [f32], at: usize)
 fn load_course(b: &[u8], h: Head, alphas: &[u32], oxygens: &[u32], course: &mut [f32])
     requires { ⌜ Whole (now b) h × Atoms (h .atoms) (now alphas) × Atoms (h .atoms) (now oxygens) ⌝ }
     requires { ⌜ (length (now alphas) ≤ 16384) × (length (now oxygens) ≡ length (now alphas)) × (length (now course) ≡ 6 * length (now alphas)) ⌝ }
-    ensures { λ _. ⌜ now (course .exit) ≡ spots (placeOf (now (b .entry)) h) (now (alphas .entry)) ++ spots (placeOf (now (b .entry)) h) (now (oxygens .entry)) ⌝ }
+    ensures { λ _. ⌜ now (course .exit) ≡ spots (placeOf (now (b .entry)) h) (now (alphas .entry)) ++ spots (placeOf (now (b .entry)) h)
+        (now (oxygens .entry)) ⌝ }
 {
     load(b, h, alphas, course, 0);
     load(b, h, oxygens, course, 3 * alphas.len());
@@ -97,7 +98,8 @@ pub fn write_tube(
     boxes: &mut [f32],
 )
     requires { ⌜ Whole (now b) h × Atoms (h .atoms) (now alphas) × Atoms (h .atoms) (now oxygens) × (kind < 256) × (first < 65536) ⌝ }
-    requires { ⌜ (2 ≤ length (now alphas)) × (length (now alphas) ≤ 16384) × (length (now oxygens) ≡ length (now alphas)) × (length (now course) ≡ 6 * length (now alphas)) ⌝ }
+    requires { ⌜ (2 ≤ length (now alphas)) × (length (now alphas) ≤ 16384) × (length (now oxygens) ≡ length (now alphas))
+        × (length (now course) ≡ 6 * length (now alphas)) ⌝ }
     requires { ⌜ (v + vertexCount (length (now alphas)) ≤ 1048576) × (t ≤ 2 * v)
         × Room (k + 1) (v + vertexCount (length (now alphas))) (t + triangleCount (length (now alphas)))
         (outs (now positions) (now normals) (now tags) (now triangles) (now tubes) (now boxes)) ⌝ }

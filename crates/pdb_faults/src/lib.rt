@@ -74,7 +74,8 @@ pub fn find_fault(
     own: Fault,
     segments: usize,
 ) -> Fault
-    requires { ⌜ (Known (now keys) (now links) count more (names (atomsOf (now s)))) × (own ≡ ownFaults 1 (records (now s))) × (segments ≡ ahead (records (now s))) ⌝ }
+    requires { ⌜ (Known (now keys) (now links) count more (names (atomsOf (now s)))) × (own ≡ ownFaults 1 (records (now s)))
+        × (segments ≡ ahead (records (now s))) ⌝ }
     ensures { λ r. ⌜ (r ≡ faultIn (now (s .entry))) × (more ≡ false → (now (keys .exit) ≡ now (keys .entry)) × (now (links .exit) ≡ now (links .entry))) ⌝ }
 {
     let mut bits = [1u8; 16384];

@@ -92,8 +92,11 @@ fn write_record(
     at: Places,
     r: Record,
 ) -> Places
-    requires { ⌜ (Index (now keys) (now links) n) × (Held (now keys) (now marks) n r) × (at .segment + 9 * length (segmentsIn r) ≤ length (now out)) × (at .atom + 33 * length (atomsIn r) ≤ length (now out)) ⌝ }
-    ensures { λ p. ⌜ ((l : List AtomLine) → Residues (now (keys .entry)) (now (links .entry)) (now (ends .entry)) n l → Marks (now (marks .entry)) (chainsOf l) (letters l) → now (out .exit) ≡ put (put (now (out .entry)) (at .segment) (segmentsFrom l (r ∷ []))) (at .atom) (atomsFrom l (r ∷ []))) × (p .segment ≡ at .segment + 9 * length (segmentsIn r)) × (p .atom ≡ at .atom + 33 * length (atomsIn r)) ⌝ }
+    requires { ⌜ (Index (now keys) (now links) n) × (Held (now keys) (now marks) n r) × (at .segment + 9 * length (segmentsIn r) ≤ length (now out))
+        × (at .atom + 33 * length (atomsIn r) ≤ length (now out)) ⌝ }
+    ensures { λ p. ⌜ ((l : List AtomLine) → Residues (now (keys .entry)) (now (links .entry)) (now (ends .entry)) n l
+        → Marks (now (marks .entry)) (chainsOf l) (letters l) → now (out .exit) ≡ put (put (now (out .entry)) (at .segment) (segmentsFrom l (r ∷ [])))
+        (at .atom) (atomsFrom l (r ∷ []))) × (p .segment ≡ at .segment + 9 * length (segmentsIn r)) × (p .atom ≡ at .atom + 33 * length (atomsIn r)) ⌝ }
 {
     match r {
         Record::ASegment(g) => {
@@ -130,8 +133,11 @@ pub fn write_records(
     first: usize,
     second: usize,
 )
-    requires { ⌜ (Residues (now keys) (now links) (now ends) n (atomsOf (now s))) × (Marks (now marks) (chainsOf (atomsOf (now s))) (letters (atomsOf (now s)))) × (first + 9 * length (segmentsOf (now s)) ≤ second) × (second + 33 * length (atomsOf (now s)) ≤ length (now out)) ⌝ }
-    ensures { λ _. ⌜ now (out .exit) ≡ put (put (now (out .entry)) first (segmentsFrom (atomsOf (now (s .entry))) (records (now (s .entry))))) second (atomsFrom (atomsOf (now (s .entry))) (records (now (s .entry)))) ⌝ }
+    requires { ⌜ (Residues (now keys) (now links) (now ends) n (atomsOf (now s)))
+        × (Marks (now marks) (chainsOf (atomsOf (now s))) (letters (atomsOf (now s)))) × (first + 9 * length (segmentsOf (now s)) ≤ second)
+        × (second + 33 * length (atomsOf (now s)) ≤ length (now out)) ⌝ }
+    ensures { λ _. ⌜ now (out .exit) ≡ put (put (now (out .entry)) first (segmentsFrom (atomsOf (now (s .entry))) (records (now (s .entry))))) second
+        (atomsFrom (atomsOf (now (s .entry))) (records (now (s .entry)))) ⌝ }
 {
     let mut at = 0;
     let mut seen = false;

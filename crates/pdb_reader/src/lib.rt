@@ -43,7 +43,8 @@ fn read_right(
     out: &mut [u8],
 ) -> Read
     requires { ⌜ (Noted (now keys) (now links) (now ends) (now marks) c (atomsOf (now s))) × (Counted (structureOf (now s)) c segments) ⌝ }
-    ensures { λ r. ⌜ (r ≡ readChecks (structureOf (now (s .entry))) (length (now (out .entry)))) × (now (out .exit) ≡ readBy r (now (s .entry)) (now (out .entry))) ⌝ }
+    ensures { λ r. ⌜ (r ≡ readChecks (structureOf (now (s .entry))) (length (now (out .entry))))
+        × (now (out .exit) ≡ readBy r (now (s .entry)) (now (out .entry))) ⌝ }
 {
     if is_past_limits(c, segments) {
         return Read::NoJob(Refusal::PastLimits);

@@ -51,7 +51,9 @@ fn take_in(
     a: AtomLine,
 ) -> FileCounts
     requires { ⌜ (Index (now keys) (now links) (c .residues)) × (c .chains ≤ c .atoms) × (c .atoms < 18446744073709551615) ⌝ }
-    ensures { λ d. ⌜ ((l : List AtomLine) → Noted (now (keys .entry)) (now (links .entry)) (now (ends .entry)) (now (marks .entry)) c l → Noted (now (keys .exit)) (now (links .exit)) (now (ends .exit)) (now (marks .exit)) d (l ++ (a ∷ []))) × (d .chains ≤ d .atoms) × (d .atoms ≤ c .atoms + 1) ⌝ }
+    ensures { λ d. ⌜ ((l : List AtomLine) → Noted (now (keys .entry)) (now (links .entry)) (now (ends .entry)) (now (marks .entry)) c l
+        → Noted (now (keys .exit)) (now (links .exit)) (now (ends .exit)) (now (marks .exit)) d (l ++ (a ∷ []))) × (d .chains ≤ d .atoms)
+        × (d .atoms ≤ c .atoms + 1) ⌝ }
 {
     if c.more {
         return c;
@@ -98,7 +100,9 @@ fn note(
     r: Record,
 ) -> FileCounts
     requires { ⌜ (Index (now keys) (now links) (c .residues)) × (c .chains ≤ c .atoms) × (c .atoms < 18446744073709551615) ⌝ }
-    ensures { λ d. ⌜ ((l : List AtomLine) → Noted (now (keys .entry)) (now (links .entry)) (now (ends .entry)) (now (marks .entry)) c l → Noted (now (keys .exit)) (now (links .exit)) (now (ends .exit)) (now (marks .exit)) d (l ++ atomsIn r)) × (d .chains ≤ d .atoms) × (d .atoms ≤ c .atoms + 1) ⌝ }
+    ensures { λ d. ⌜ ((l : List AtomLine) → Noted (now (keys .entry)) (now (links .entry)) (now (ends .entry)) (now (marks .entry)) c l
+        → Noted (now (keys .exit)) (now (links .exit)) (now (ends .exit)) (now (marks .exit)) d (l ++ atomsIn r)) × (d .chains ≤ d .atoms)
+        × (d .atoms ≤ c .atoms + 1) ⌝ }
 {
     match r {
         Record::AnAtom(a) => take_in(keys, links, ends, marks, c, a),

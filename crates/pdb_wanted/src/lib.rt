@@ -44,7 +44,8 @@ fn note_name(
     name: u64,
 )
     requires { ⌜ Index (now keys) (now links) n ⌝ }
-    ensures { λ _. ⌜ ((l : List ℕ) → Wanted (now (keys .entry)) (now (links .entry)) (now (bits .entry)) n l → Wanted (now (keys .entry)) (now (links .entry)) (now (bits .exit)) n (l ++ (name ∷ []))) ⌝ }
+    ensures { λ _. ⌜ ((l : List ℕ) → Wanted (now (keys .entry)) (now (links .entry)) (now (bits .entry)) n l
+        → Wanted (now (keys .entry)) (now (links .entry)) (now (bits .exit)) n (l ++ (name ∷ []))) ⌝ }
 {
     let p = appearance::find(keys, links, n, name);
     if 0 < p {
@@ -61,7 +62,8 @@ fn note_atom(
     r: Record,
 )
     requires { ⌜ Index (now keys) (now links) n ⌝ }
-    ensures { λ _. ⌜ ((l : List AtomLine) → Wanted (now (keys .entry)) (now (links .entry)) (now (bits .entry)) n (names l) → Wanted (now (keys .entry)) (now (links .entry)) (now (bits .exit)) n (names (l ++ atomsIn r))) ⌝ }
+    ensures { λ _. ⌜ ((l : List AtomLine) → Wanted (now (keys .entry)) (now (links .entry)) (now (bits .entry)) n (names l)
+        → Wanted (now (keys .entry)) (now (links .entry)) (now (bits .exit)) n (names (l ++ atomsIn r))) ⌝ }
 {
     match r {
         Record::AnAtom(a) => note_name(keys, links, n, bits, a.name),
@@ -164,7 +166,8 @@ pub fn refresh(
     r: Record,
 ) -> usize
     requires { ⌜ (at ≤ length (now s)) × (Wanted (now keys) (now links) (now bits) n (names (atomsOf (now s)))) ⌝ }
-    ensures { λ m. ⌜ (Wanted (now (keys .exit)) (now (links .exit)) (now (bits .exit)) m (names (atomsOf (now (s .entry))))) × (more ≡ false → (now (keys .exit) ≡ now (keys .entry)) × (now (links .exit) ≡ now (links .entry)) × (m ≡ n)) ⌝ }
+    ensures { λ m. ⌜ (Wanted (now (keys .exit)) (now (links .exit)) (now (bits .exit)) m (names (atomsOf (now (s .entry)))))
+        × (more ≡ false → (now (keys .exit) ≡ now (keys .entry)) × (now (links .exit) ≡ now (links .entry)) × (m ≡ n)) ⌝ }
 {
     if serves(keys, links, n, more, r) {
         return n;

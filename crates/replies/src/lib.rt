@@ -194,7 +194,8 @@ fn answer_build(
     floats: &mut [f32],
     out: &mut [u8],
 ) -> Sink
-    requires { ⌜ SinkReady s (length (now out)) × Within lent (own (length (now positions)) (length (now normals)) (length (now tags)) (length (now triangles)) (length (now tubes)) (length (now boxes)) (length (now words)) (length (now floats))) ⌝ }
+    requires { ⌜ SinkReady s (length (now out)) × Within lent (own (length (now positions)) (length (now normals)) (length (now tags))
+        (length (now triangles)) (length (now tubes)) (length (now boxes)) (length (now words)) (length (now floats))) ⌝ }
     ensures { λ r. ⌜ SinkReady r (length (now (out .entry))) ⌝ }
 {
     let n0 = lent.positions;
@@ -235,7 +236,8 @@ pub fn answer(
     floats: &mut [f32],
     out: &mut [u8],
 ) -> Sink
-    requires { ⌜ SinkReady s (length (now out)) × Within (r .lent) (own (length (now positions)) (length (now normals)) (length (now tags)) (length (now triangles)) (length (now tubes)) (length (now boxes)) (length (now words)) (length (now floats))) × Sized r (length (now b)) ⌝ }
+    requires { ⌜ SinkReady s (length (now out)) × Within (r .lent) (own (length (now positions)) (length (now normals)) (length (now tags))
+        (length (now triangles)) (length (now tubes)) (length (now boxes)) (length (now words)) (length (now floats))) × Sized r (length (now b)) ⌝ }
     ensures { λ r. ⌜ SinkReady r (length (now (out .entry))) ⌝ }
 {
     let lent = r.lent;

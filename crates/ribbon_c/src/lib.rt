@@ -80,7 +80,10 @@ pub extern "C" fn ribbon_build(
     floats: &mut [f32],
     answer: &mut [u32; 4],
 )
-    ensures { λ _. ⌜ (now (answer .exit) ≡ wordsOf (builtNumbers (buildAnswer (now (job .entry)) (lent (outs (now (positions .entry)) (now (normals .entry)) (now (tags .entry)) (now (triangles .entry)) (now (tubes .entry)) (now (boxes .entry))) (now (words .entry)) (now (floats .entry))))))
+    ensures { λ _. ⌜ (now (answer .exit) ≡ wordsOf
+        (builtNumbers (buildAnswer (now (job .entry))
+        (lent (outs (now (positions .entry)) (now (normals .entry)) (now (tags .entry)) (now (triangles .entry)) (now (tubes .entry)) (now (boxes .entry)))
+        (now (words .entry)) (now (floats .entry))))))
         × ((outs (now (positions .exit)) (now (normals .exit)) (now (tags .exit)) (now (triangles .exit)) (now (tubes .exit)) (now (boxes .exit))) ≡ outsAfter (now (job .entry)) (lent (outs (now (positions .entry)) (now (normals .entry)) (now (tags .entry)) (now (triangles .entry)) (now (tubes .entry)) (now (boxes .entry))) (now (words .entry)) (now (floats .entry))) (outs (now (positions .entry)) (now (normals .entry)) (now (tags .entry)) (now (triangles .entry)) (now (tubes .entry)) (now (boxes .entry))))
         × (now (words .exit) ≡ wordsAfter (now (job .entry)) (length (now (words .entry))) (length (now (floats .entry))) (now (words .entry)))
         × (now (floats .exit) ≡ floatsAfter (now (job .entry)) (length (now (words .entry))) (length (now (floats .entry))) (now (floats .entry))) ⌝ }
@@ -108,7 +111,8 @@ pub extern "C" fn ribbon_plan(
     floats: &mut [f32],
     answer: &mut [u32; 9],
 )
-    ensures { λ _. ⌜ (now (answer .exit) ≡ wordsOf (plannedNumbers (planAnswer (now (job .entry)) k (length (now (words .entry))) (length (now (floats .entry))))))
+    ensures { λ _. ⌜ (now (answer .exit) ≡ wordsOf
+        (plannedNumbers (planAnswer (now (job .entry)) k (length (now (words .entry))) (length (now (floats .entry))))))
         × (now (words .exit) ≡ wordsAfter (now (job .entry)) (length (now (words .entry))) (length (now (floats .entry))) (now (words .entry)))
         × (now (floats .exit) ≡ floatsAfter (now (job .entry)) (length (now (words .entry))) (length (now (floats .entry))) (now (floats .entry))) ⌝ }
 {

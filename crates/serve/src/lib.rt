@@ -145,7 +145,8 @@ fn answer_next(
     bytes: &mut [u8],
     out: &mut [u8],
 ) -> Served
-    requires { ⌜ SinkReady s (length (now out)) × Serves r (own (length (now positions)) (length (now normals)) (length (now tags)) (length (now triangles)) (length (now tubes)) (length (now boxes)) (length (now words)) (length (now floats))) (length (now bytes)) ⌝ }
+    requires { ⌜ SinkReady s (length (now out)) × Serves r (own (length (now positions)) (length (now normals)) (length (now tags)) (length (now triangles))
+        (length (now tubes)) (length (now boxes)) (length (now words)) (length (now floats))) (length (now bytes)) ⌝ }
 {
     let n = r.bytes;
     let got = files::fill(from, &mut bytes[..n]);

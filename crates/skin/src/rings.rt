@@ -64,7 +64,8 @@ fn put_vertex(
     tag: u32,
 )
     requires { ⌜ VertexRoom (now positions) (now normals) (now tags) (v + 1) ⌝ }
-    ensures { λ _. ⌜ Wrote (now (positions .entry)) (now (normals .entry)) (now (tags .entry)) v (floats p) (floats q) (tag ∷ []) (now (positions .exit)) (now (normals .exit)) (now (tags .exit)) ⌝ }
+    ensures { λ _. ⌜ Wrote (now (positions .entry)) (now (normals .entry)) (now (tags .entry)) v (floats p) (floats q) (tag ∷ []) (now (positions .exit))
+        (now (normals .exit)) (now (tags .exit)) ⌝ }
 {
     put_vec(positions, 3 * v, p);
     put_vec(normals, 3 * v, q);
