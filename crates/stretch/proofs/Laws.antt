@@ -1,15 +1,20 @@
 -- Laws of ascending serials, and of the parts of the atoms and of the residues that a segment reaches. Assumes nothing.
-use Prim.Native.Nat.{ℕ, zero, suc, _+_, _-_, _<_, _≤_}
-use mathlib.Core.Bool.{Bool, true, false}
+use Prim.Native.Nat.{ℕ, zero, suc, _+_, _-_, _%_, _<_, _≤_}
+use mathlib.Core.Bool.{Bool, true, false, _&&_}
 use mathlib.Core.Path.{_≡_, refl, sym, _∙_, ap, subst}
 use mathlib.Core.Logic.{⊎-elim}
-use native.Mathlib.Nat.{eq-or-lt-of-le, le-of-suc-le-suc}
+use native.Mathlib.Nat.{eq-or-lt-of-le, le-of-suc-le-suc, mod-eq-of-lt, add-mod-right}
 use native.Mathlib.Numerals.{add-one}
 use native.Mathlib.Omega.{arith}
 use lib.Dec.{leb, ltb}
-use borrow.Author.Tests.{leb-true, le-leb, ltb-true, ltb-false}
+use borrow.Author.Tests.{leb-true, leb-false, le-leb, lt-leb, ltb-true, ltb-false}
 use Rattle.stretch.specs.Stretch.{inside, ascends, Splits, Outside, In, Reaches, Spans, Met, ranged, Widened}
-use Rattle.protein.specs.Job.{Job}
+use mathlib.Core.List.{List}
+use lib.ListN.{getD}
+use Rattle.numbers.specs.Bytes.{u16At, u32At}
+use Rattle.protein.specs.Layout.{serialAt}
+use Rattle.protein.specs.declared.Head.{Head}
+use Rattle.protein.specs.Job.{Job, jobOf}
 use Rattle.stretch.specs.declared.Range.{Range}
 use Rattle.stretch.specs.declared.Part.{Part}
 use Rattle.lists.proofs.Bools.{clash, and-left, and-right}
@@ -52,6 +57,42 @@ inside-start g v e = leb-true _ _ (and-left (leb (g .start) v) _ e)
 pub inside-stop : (g : Range) (v : ℕ) → inside g v ≡ true → v ≤ g .stop
 unfolding inside
 inside-stop g v e = leb-true _ _ (and-right (leb (g .start) v) _ e)
+
+-- by one comparison: what is below the start comes round to more than the range is long
+pub within-is : (g : Range) (v : ℕ) → g .start ≤ g .stop → g .stop < 4294967296 → v < 4294967296 → leb ((v + 4294967296 - g .start) % 4294967296) (g .stop - g .start) ≡ inside g v
+unfolding inside
+within-is g v o few l = go (leb (g .start) v) refl (leb v (g .stop)) refl
+  where
+    go : (b : Bool) → leb (g .start) v ≡ b → (c : Bool) → leb v (g .stop) ≡ c → leb ((v + 4294967296 - g .start) % 4294967296) (g .stop - g .start) ≡ (b && c)
+    go false e c f =
+        let below = leb-false (g .start) v e in
+        let z : (v + 4294967296 - g .start) % 4294967296 ≡ v + 4294967296 - g .start = mod-eq-of-lt (omega arith) in
+        rw z (lt-leb (v + 4294967296 - g .start) (g .stop - g .start) (omega arith))
+    go true e c f =
+        let from = leb-true (g .start) v e in
+        let y : v + 4294967296 - g .start ≡ v - g .start + 4294967296 = omega arith in
+        let x : (v - g .start) % 4294967296 ≡ v - g .start = mod-eq-of-lt (omega arith) in
+        let z : (v + 4294967296 - g .start) % 4294967296 ≡ v - g .start = ap (λ (n : ℕ). n % 4294967296) y ∙ add-mod-right (v - g .start) 4294967296 ∙ x in
+        rw z (size c f from)
+      where
+        size : (c : Bool) → leb v (g .stop) ≡ c → g .start ≤ v → leb (v - g .start) (g .stop - g .start) ≡ c
+        size true f from = let to = leb-true v (g .stop) f in le-leb (v - g .start) (g .stop - g .start) (omega arith)
+        size false f from = let to = leb-false v (g .stop) f in lt-leb (v - g .start) (g .stop - g .start) (omega arith)
+
+-- no serial is in an empty range
+pub inside-none : (g : Range) (v : ℕ) → g .stop < g .start → inside g v ≡ false
+unfolding inside
+inside-none g v e = go (leb (g .start) v) refl
+  where
+    go : (b : Bool) → leb (g .start) v ≡ b → (b && leb v (g .stop)) ≡ false
+    go true q = let from = leb-true (g .start) v q in lt-leb v (g .stop) (omega arith)
+    go false q = refl
+
+pub serial-few : (s : List ℕ) (h : Head) (a : ℕ) → ((i : ℕ) → getD s i 0 < 256) → jobOf s h .serial a < 4294967296
+unfolding u32At u16At
+serial-few s h a bytes =
+    let at = serialAt h a in
+    omega (arith, bytes at, bytes (at + 1), bytes (at + 2), bytes (at + 2 + 1))
 
 -- of the first n atoms, which ascend, those of the range stand from the first serial that is not below its start up to the first that is above its stop
 pub between : (J : Job) (g : Range) (n lo hi : ℕ) → Splits (J .serial) n (g .start) lo → Splits (J .serial) n (g .stop + 1) hi

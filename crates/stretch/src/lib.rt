@@ -29,6 +29,14 @@ pub fn is_inside(g: Range, v: usize) -> bool
     v <= g.stop
 }
 
+// The same by one comparison, for ranges that are not empty: two would be foretold badly by the machine where the atoms stand in no order.
+fn is_within(g: Range, v: usize) -> bool
+    requires { ⌜ (g .start ≤ g .stop) × (g .stop < 4294967296) × (v < 4294967296) ⌝ }
+    ensures { λ r. ⌜ r ≡ inside g v ⌝ }
+{
+    (v + 4294967296 - g.start) % 4294967296 <= g.stop - g.start
+}
+
 // How many atoms, from the first on, have serials that never go down.
 pub fn count_ascending(b: &[u8], h: Head) -> usize
     requires { ⌜ Whole (now b) h ⌝ }
@@ -65,13 +73,16 @@ fn count_below(b: &[u8], h: Head, ascending: usize, v: usize) -> usize
 
 // The first atom from one number up to another that is in the range; the second number where there is none.
 pub fn first_inside(b: &[u8], h: Head, g: Range, from: usize, to: usize) -> usize
-    requires { ⌜ Whole (now b) h × (to ≤ h .atoms) ⌝ }
+    requires { ⌜ Whole (now b) h × (to ≤ h .atoms) × (g .stop < 4294967296) ⌝ }
     ensures { λ r. ⌜ (r ≤ to) × (from ≤ to → from ≤ r) × Outside (jobOf (now (b .entry)) h) g from r
         × (r < to → ranged (jobOf (now (b .entry)) h) g r ≡ true) ⌝ }
 {
+    if g.stop < g.start {
+        return to;
+    }
     let mut a = from;
     while a < to {
-        if is_inside(g, protein::serial(b, h, a)) {
+        if is_within(g, protein::serial(b, h, a)) {
             return a;
         }
         a += 1;
@@ -81,12 +92,15 @@ pub fn first_inside(b: &[u8], h: Head, g: Range, from: usize, to: usize) -> usiz
 
 // One more than the last atom from a number on that is in the range; that number where there is none.
 fn past_inside(b: &[u8], h: Head, g: Range, from: usize) -> usize
-    requires { ⌜ Whole (now b) h × (from ≤ h .atoms) ⌝ }
+    requires { ⌜ Whole (now b) h × (from ≤ h .atoms) × (g .stop < 4294967296) ⌝ }
     ensures { λ r. ⌜ (from ≤ r) × (r ≤ h .atoms) × Outside (jobOf (now (b .entry)) h) g r (h .atoms) ⌝ }
 {
+    if g.stop < g.start {
+        return from;
+    }
     let mut a = h.atoms as usize;
     while from < a {
-        if is_inside(g, protein::serial(b, h, a - 1)) {
+        if is_within(g, protein::serial(b, h, a - 1)) {
             return a;
         }
         a -= 1;

@@ -178,7 +178,7 @@ pub fn fill_segment(
     oxygens: usize,
 ) -> Part
     requires { ⌜ Whole (now b) h × (alphas + h .residues ≤ oxygens) × (oxygens + h .residues ≤ length (now t))
-        × (residues .from ≤ residues .to) × (residues .to ≤ h .residues) ⌝ }
+        × (residues .from ≤ residues .to) × (residues .to ≤ h .residues) × (g .stop < 4294967296) ⌝ }
     requires { ⌜ Reaches (jobOf (now b) h) g atoms × Met (jobOf (now b) h) (ranged (jobOf (now b) h) g) (h .atoms) residues
         × Noted (jobOf (now b) h) g full 0 residues alphas oxygens (now t) (now t) ⌝ }
     ensures { λ r. ⌜ Noted (jobOf (now (b .entry)) h) g full (h .atoms) residues alphas oxygens (now (t .entry)) (now (t .exit))

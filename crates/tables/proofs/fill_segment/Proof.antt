@@ -31,7 +31,7 @@ note-inside-requires c κs =
     ((pre .0 .0, omega (arith, pre .1 .0 .to), pre .0 .1, omega (arith, pre .0 .2, I .2 .noted .size), pre .0 .4), ((I .1 (omega arith), pre .1 .1), filling-now _ _ _ _ _ _ _ _ _ _ (I .2)))
 
 first-inside-requires-2 : tie.Need-first-inside-requires-2 Inv-loop μ-loop
-first-inside-requires-2 c κs = (c .before .before .before .before .before .before .before .before .before .pre .0 .0, c .before .before .before .before .before .before .before .before .before .pre .1 .0 .to)
+first-inside-requires-2 c κs = let pre = c .before .before .before .before .before .before .before .before .before .pre in (pre .0 .0, pre .1 .0 .to, pre .0 .5)
 
 loop-again : tie.Need-loop-again Inv-loop μ-loop
 loop-again c =
@@ -59,7 +59,7 @@ fill-segment-spec =
     (tie.spec
     Inv-loop
     μ-loop
-    (λ c κs. (c .before .before .pre .0 .0, c .before .before .pre .1 .0 .to))
+    (λ c κs. let pre = c .before .before .pre in (pre .0 .0, pre .1 .0 .to, pre .0 .5))
     loop-holds
     note-inside-requires
     (λ c. search needs)
