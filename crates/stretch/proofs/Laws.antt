@@ -1,5 +1,5 @@
 -- Laws of ascending serials, and of the parts of the atoms and of the residues that a segment reaches. Assumes nothing.
-use Prim.Native.Nat.{ℕ, zero, suc, _+_, _-_, _%_, _<_, _≤_}
+use Prim.Native.Nat.{ℕ, _+_, _-_, _%_, _<_, _≤_}
 use mathlib.Core.Bool.{Bool, true, false, _&&_}
 use mathlib.Core.Path.{_≡_, refl, sym, _∙_, ap, subst}
 use mathlib.Core.Logic.{⊎-elim}
@@ -8,7 +8,7 @@ use native.Mathlib.Numerals.{add-one}
 use native.Mathlib.Omega.{arith}
 use lib.Dec.{leb, ltb}
 use borrow.Author.Tests.{leb-true, leb-false, le-leb, lt-leb, ltb-true, ltb-false}
-use Rattle.stretch.specs.Stretch.{inside, ascends, Splits, Outside, In, Reaches, Spans, Met, ranged, Widened}
+use Rattle.stretch.specs.Stretch.{inside, Up, Splits, Holds, Outside, In, Reaches, Spans, Met, ranged, Widened}
 use mathlib.Core.List.{List}
 use lib.ListN.{getD}
 use Rattle.numbers.specs.Bytes.{u16At, u32At}
@@ -19,36 +19,19 @@ use Rattle.stretch.specs.declared.Range.{Range}
 use Rattle.stretch.specs.declared.Part.{Part}
 use Rattle.lists.proofs.Bools.{clash, and-left, and-right}
 
-pub ascends-none : (f : ℕ → ℕ) → ascends f 0 ≡ true
-unfolding ascends
-ascends-none f = refl
+-- one number, and one more that is not below the last
+pub up-one : (f : ℕ → ℕ) (m : ℕ) → Up f m (m + 1)
+up-one f m i j l h k = let x : i ≡ j = omega arith in rw x (omega arith)
 
-pub ascends-more : (f : ℕ → ℕ) (n : ℕ) → ascends f n ≡ true → f n ≤ f (n + 1) → ascends f (n + 1) ≡ true
-unfolding ascends
-ascends-more f n e l = let z : f n ≤ f (suc n) = rw add-one at l in rw (add-one, e, le-leb (f n) (f (suc n)) z)
-
-pub ascends-le : (f : ℕ → ℕ) (n i j : ℕ) → ascends f n ≡ true → i ≤ j → j ≤ n → f i ≤ f j
-unfolding ascends
-ascends-le f zero i j e l m = let q : i ≡ j = omega arith in rw q (omega arith)
-ascends-le f (suc n) i j e l m =
-    let step = leb-true (f n) (f (suc n)) (and-right (ascends f n) _ e) in
-    let all = ascends-le f n in
-    let before = and-left (ascends f n) _ e in
+pub up-more : (f : ℕ → ℕ) (m a : ℕ) → Up f m (a + 1) → f a ≤ f (a + 1) → Up f m (a + 1 + 1)
+up-more f m a U s i j l h k =
     ⊎-elim
-    (λ q. ⊎-elim
-    (λ p. let z : i ≡ j = p in rw z (omega arith))
-    (λ p. let z = all i n before (omega arith) (omega arith) in subst (λ (k : ℕ). f i ≤ f k) (sym q) (omega arith))
-    (eq-or-lt-of-le l))
-    (λ k. all i j before l (le-of-suc-le-suc k))
-    (eq-or-lt-of-le m)
-
--- what is known on the way: the first lo numbers are below v, those from hi on are not
-module _ (f : ℕ → ℕ) (n v : ℕ) (up : ascends f (n - 1) ≡ true) where
-  pub below-more : (mid : ℕ) → mid < n → f mid < v → (a : ℕ) → a < mid + 1 → f a < v
-  below-more mid l e a h = let z = ascends-le f (n - 1) a mid up (omega arith) (omega arith) in omega arith
-
-  pub above-more : (mid : ℕ) → v ≤ f mid → (a : ℕ) → mid ≤ a → a < n → v ≤ f a
-  above-more mid e a h l = let z = ascends-le f (n - 1) mid a up h (omega arith) in omega arith
+    (λ q. let x : j ≡ a + 1 = q in rw x (last i l (subst (λ (n : ℕ). i ≤ n) x h)))
+    (λ n. U i j l h (omega arith))
+    (eq-or-lt-of-le (le-of-suc-le-suc (rw add-one at k)))
+  where
+    last : (i : ℕ) → m ≤ i → i ≤ a + 1 → f i ≤ f (a + 1)
+    last i l h = ⊎-elim (λ q. let x : i ≡ a + 1 = q in rw x (omega arith)) (λ n. let z = U i a l (omega arith) (omega arith) in omega arith) (eq-or-lt-of-le h)
 
 pub inside-start : (g : Range) (v : ℕ) → inside g v ≡ true → g .start ≤ v
 unfolding inside
@@ -94,18 +77,31 @@ serial-few s h a bytes =
     let at = serialAt h a in
     omega (arith, bytes at, bytes (at + 1), bytes (at + 2), bytes (at + 2 + 1))
 
--- of the first n atoms, which ascend, those of the range stand from the first serial that is not below its start up to the first that is above its stop
-pub between : (J : Job) (g : Range) (n lo hi : ℕ) → Splits (J .serial) n (g .start) lo → Splits (J .serial) n (g .stop + 1) hi
-    → (a : ℕ) → a < n → inside g (J .serial a) ≡ true → (lo ≤ a) × (a < hi)
-between J g n lo hi L H a l e = (start (ltb a lo) refl, stop (ltb a hi) refl)
+-- the atoms of a run that are in the range stand from the first serial that is not below its start up to the first that is above its stop
+pub run-holds : (J : Job) (g : Range) (m n lo hi : ℕ) → Splits (J .serial) m n (g .start) lo → Splits (J .serial) m n (g .stop + 1) hi → Holds J g m n (record { from = lo; to = hi })
+run-holds J g m n lo hi L H = record {
+  low = L .low;
+  from = L .few;
+  to = H .few;
+  all = λ a o l e. (start a o e (ltb a lo) refl, stop a l e (ltb a hi) refl);
+}
   where
-    start : (b : Bool) → ltb a lo ≡ b → lo ≤ a
-    start true t = absurd (omega (arith, L .below a (ltb-true a lo t), inside-start g _ e))
-    start false t = ltb-false a lo t
+    start : (a : ℕ) → m ≤ a → inside g (J .serial a) ≡ true → (b : Bool) → ltb a lo ≡ b → lo ≤ a
+    start a o e true t = absurd (omega (arith, L .below a o (ltb-true a lo t), inside-start g _ e))
+    start a o e false t = ltb-false a lo t
 
-    stop : (b : Bool) → ltb a hi ≡ b → a < hi
-    stop true t = ltb-true a hi t
-    stop false t = absurd (omega (arith, H .above a (ltb-false a hi t) l, inside-stop g _ e))
+    stop : (a : ℕ) → a < n → inside g (J .serial a) ≡ true → (b : Bool) → ltb a hi ≡ b → a < hi
+    stop a l e true t = ltb-true a hi t
+    stop a l e false t = absurd (omega (arith, H .above a (ltb-false a hi t) l, inside-stop g _ e))
+
+-- one run behind another
+pub holds-both : (J : Job) (g : Range) (m n : ℕ) (p q r : Part) → m ≤ n → Holds J g 0 m p → Holds J g m n q → ((a : ℕ) → In p a → In r a) → ((a : ℕ) → In q a → In r a)
+    → r .from ≤ n → r .to ≤ n → Holds J g 0 n r
+holds-both J g m n p q r o P Q pr qr f t = record { low = omega arith; from = f; to = t; all = λ a _ l e. go a l e (ltb a m) refl }
+  where
+    go : (a : ℕ) → a < n → inside g (J .serial a) ≡ true → (b : Bool) → ltb a m ≡ b → In r a
+    go a l e true x = pr a (P .all a (omega arith) (ltb-true a m x) e)
+    go a l e false x = qr a (Q .all a (ltb-false a m x) l e)
 
 -- an atom of the range stands past a part that has none
 pub past-outside : (J : Job) (g : Range) (from to a : ℕ) → Outside J g from to → from ≤ a → inside g (J .serial a) ≡ true → to ≤ a
@@ -131,24 +127,23 @@ reaches-by J g p n f t front behind = record { from = f; to = t; all = λ a l e.
     go a l e true q = front a (ltb-true a n q) e
     go a l e false q = behind a (ltb-false a n q) l e
 
-module _ (J : Job) (g : Range) (n lo hi end : ℕ) (few : n ≤ J .atoms) (L : Splits (J .serial) n (g .start) lo) (H : Splits (J .serial) n (g .stop + 1) hi)
-    (last : end ≤ J .atoms) (O : Outside J g end (J .atoms)) where
-  -- none behind those that ascend
-  pub reaches-front : end ≡ n → Reaches J g (record { from = lo; to = hi })
+module _ (J : Job) (g : Range) (n end : ℕ) (p : Part) (few : n ≤ J .atoms) (H : Holds J g 0 n p) (last : end ≤ J .atoms) (O : Outside J g end (J .atoms)) where
+  -- none behind the runs
+  pub reaches-front : end ≡ n → Reaches J g p
   reaches-front q =
-      reaches-by J g _ n (omega (arith, L .few)) (omega (arith, H .few)) (λ a l e. between J g n lo hi L H a l e)
+      reaches-by J g _ n (omega (arith, H .from)) (omega (arith, H .to)) (λ a l e. H .all a (omega arith) l e)
       (λ a l m e. absurd (omega (arith, before-outside J g end (J .atoms) a O m e)))
 
   -- some on both sides
-  pub reaches-both : n ≤ end → lo < hi → Reaches J g (record { from = lo; to = end })
-  reaches-both q w =
-      reaches-by J g _ n (omega (arith, L .few)) last (λ a l e. (between J g n lo hi L H a l e .0, omega arith))
-      (λ a l m e. (omega (arith, L .few), before-outside J g end (J .atoms) a O m e))
+  pub reaches-both : n ≤ end → Reaches J g (record { from = p .from; to = end })
+  reaches-both q =
+      reaches-by J g _ n (omega (arith, H .from)) last (λ a l e. (H .all a (omega arith) l e .0, omega arith))
+      (λ a l m e. (omega (arith, H .from), before-outside J g end (J .atoms) a O m e))
 
-  -- none that ascend
-  pub reaches-behind : (from : ℕ) → hi ≤ lo → from ≤ end → Outside J g n from → Reaches J g (record { from = from; to = end })
+  -- none in the runs
+  pub reaches-behind : (from : ℕ) → p .to ≤ p .from → from ≤ end → Outside J g n from → Reaches J g (record { from = from; to = end })
   reaches-behind from w f F =
-      reaches-by J g _ n (omega arith) last (λ a l e. let z = between J g n lo hi L H a l e in absurd (omega (arith, z .0, z .1)))
+      reaches-by J g _ n (omega arith) last (λ a l e. let z = H .all a (omega arith) l e in absurd (omega (arith, z .0, z .1)))
       (λ a l m e. (past-outside J g n from a F l e, before-outside J g end (J .atoms) a O m e))
 
 -- one atom more of which none is in the range, in front and behind

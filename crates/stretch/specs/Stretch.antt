@@ -1,26 +1,33 @@
 -- Where a segment's atoms stand in the job: no part of 01's list, only of how the tables find it without reading every atom for every segment.
-use Prim.Native.Nat.{ℕ, zero, suc, _-_, _<_, _≤_}
+use Prim.Native.Nat.{ℕ, _<_, _≤_}
 use mathlib.Core.Bool.{Bool, true, false, _&&_}
 use mathlib.Core.Path.{_≡_}
 use lib.Dec.{leb}
 use Rattle.protein.specs.Job.{Job}
 use Rattle.stretch.specs.declared.Range.{Range}
+use Rattle.stretch.specs.declared.Order.{Order}
 use Rattle.stretch.specs.declared.Part.{Part}
 
--- f never goes down in its first n steps
-unfoldable pub ascends : (ℕ → ℕ) → ℕ → Bool
-ascends f zero = true
-ascends f (suc n) = ascends f n && leb (f n) (f (suc n))
+-- f never goes down from m up to, and without, n
+abbrev pub Up : (ℕ → ℕ) → ℕ → ℕ → Type 0
+Up f m n = (i j : ℕ) → m ≤ i → i ≤ j → j < n → f i ≤ f j
 
--- of the first n atoms none has a serial below that of the atom before it
-pub record Ascending (J : Job) (n : ℕ) : Type 0 where
+-- from atom m up to, and without, n none has a serial below that of one before it
+pub record Run (J : Job) (m n : ℕ) : Type 0 where
+  pub order : m ≤ n
   pub few : n ≤ J .atoms
-  pub up : ascends (J .serial) (n - 1) ≡ true
+  pub up : Up (J .serial) m n
 
--- the first r of n numbers are below v, and the others are not
-pub record Splits (f : ℕ → ℕ) (n v r : ℕ) : Type 0 where
+-- two runs, the second where the first ends
+pub record Orders (J : Job) (o : Order) : Type 0 where
+  pub first : Run J 0 (o .first)
+  pub second : Run J (o .first) (o .second)
+
+-- of the numbers from m up to n those before r are below v, and the others are not
+pub record Splits (f : ℕ → ℕ) (m n v r : ℕ) : Type 0 where
+  pub low : m ≤ r
   pub few : r ≤ n
-  pub below : (a : ℕ) → a < r → f a < v
+  pub below : (a : ℕ) → m ≤ a → a < r → f a < v
   pub above : (a : ℕ) → r ≤ a → a < n → v ≤ f a
 
 -- 'serials from start to end inclusive'
@@ -34,6 +41,13 @@ Outside J g from to = (a : ℕ) → from ≤ a → a < to → inside g (J .seria
 -- k is one of the numbers of the part
 abbrev pub In : Part → ℕ → Type 0
 In p k = (p .from ≤ k) × (k < p .to)
+
+-- a part of the atoms from m up to n, in which those with a serial in a range stand
+pub record Holds (J : Job) (g : Range) (m n : ℕ) (p : Part) : Type 0 where
+  pub low : m ≤ p .from
+  pub from : p .from ≤ n
+  pub to : p .to ≤ n
+  pub all : (a : ℕ) → m ≤ a → a < n → inside g (J .serial a) ≡ true → In p a
 
 -- a part of the atoms in which every atom with a serial in a range stands
 pub record Reaches (J : Job) (g : Range) (p : Part) : Type 0 where

@@ -1,11 +1,12 @@
 // Which atoms, and which residues, a segment reaches. Where serials ascend, as in every file that a program wrote, its atoms are one part of the list.
+// Where they begin anew once, as where two files were joined, its atoms are mostly one part of one of the two runs.
 use protein::Head;
 ghost use mathlib.Core.Path.{_≡_};
 ghost use mathlib.Core.Bool.{true};
-ghost use Prim.Native.Nat.{_+_, _≤_, _<_};
+ghost use Prim.Native.Nat.{ℕ, _+_, _≤_, _<_};
 ghost use Rattle.protein.specs.Layout.{Whole};
 ghost use Rattle.protein.specs.Job.{jobOf};
-ghost use Rattle.stretch.specs.Stretch.{Ascending, inside, ranged, Splits, Outside, Reaches, Spans, Widened};
+ghost use Rattle.stretch.specs.Stretch.{Run, Orders, inside, ranged, Splits, In, Holds, Outside, Reaches, Spans, Widened};
 
 // Serial numbers from start to stop, both included.
 pub struct Range {
@@ -37,13 +38,19 @@ fn is_within(g: Range, v: usize) -> bool
     (v + 4294967296 - g.start) % 4294967296 <= g.stop - g.start
 }
 
-// How many atoms, from the first on, have serials that never go down.
-pub fn count_ascending(b: &[u8], h: Head) -> usize
-    requires { ⌜ Whole (now b) h ⌝ }
-    ensures { λ r. ⌜ Ascending (jobOf (now (b .entry)) h) r ⌝ }
+// Where serials go down: they ascend up to, and without, the first of these atoms, and anew from there up to the second.
+pub struct Order {
+    pub first: usize,
+    pub second: usize,
+}
+
+// The atom up to which, and without which, serials never go down from one atom on.
+fn end_of_run(b: &[u8], h: Head, from: usize) -> usize
+    requires { ⌜ Whole (now b) h × (from ≤ h .atoms) ⌝ }
+    ensures { λ r. ⌜ Run (jobOf (now (b .entry)) h) from r ⌝ }
 {
     let n = h.atoms as usize;
-    let mut a = 0;
+    let mut a = from;
     while a + 1 < n {
         if protein::serial(b, h, a + 1) < protein::serial(b, h, a) {
             return a + 1;
@@ -53,13 +60,23 @@ pub fn count_ascending(b: &[u8], h: Head) -> usize
     n
 }
 
-// How many of the atoms whose serials ascend have one below v.
-fn count_below(b: &[u8], h: Head, ascending: usize, v: usize) -> usize
-    requires { ⌜ Whole (now b) h × Ascending (jobOf (now b) h) ascending ⌝ }
-    ensures { λ r. ⌜ Splits (jobOf (now (b .entry)) h .serial) ascending v r ⌝ }
+// The order of a job's atoms.
+pub fn order_of(b: &[u8], h: Head) -> Order
+    requires { ⌜ Whole (now b) h ⌝ }
+    ensures { λ r. ⌜ Orders (jobOf (now (b .entry)) h) r ⌝ }
 {
-    let mut lo = 0;
-    let mut hi = ascending;
+    let first = end_of_run(b, h, 0);
+    let second = end_of_run(b, h, first);
+    Order { first, second }
+}
+
+// The first atom of a run whose serial is not below v; the run's end where there is none.
+fn first_from(b: &[u8], h: Head, from: usize, to: usize, v: usize) -> usize
+    requires { ⌜ Whole (now b) h × Run (jobOf (now b) h) from to ⌝ }
+    ensures { λ r. ⌜ Splits (jobOf (now (b .entry)) h .serial) from to v r ⌝ }
+{
+    let mut lo = from;
+    let mut hi = to;
     while lo < hi {
         let mid = lo + (hi - lo) / 2;
         if protein::serial(b, h, mid) < v {
@@ -69,6 +86,34 @@ fn count_below(b: &[u8], h: Head, ascending: usize, v: usize) -> usize
         }
     }
     lo
+}
+
+// The part of a run in which its atoms of the range stand.
+fn part_of_run(b: &[u8], h: Head, g: Range, from: usize, to: usize) -> Part
+    requires { ⌜ Whole (now b) h × Run (jobOf (now b) h) from to × (g .stop < 4294967296) ⌝ }
+    ensures { λ r. ⌜ Holds (jobOf (now (b .entry)) h) g from to r ⌝ }
+{
+    let lo = first_from(b, h, from, to, g.start);
+    let hi = first_from(b, h, from, to, g.stop + 1);
+    Part { from: lo, to: hi }
+}
+
+// A part that has the atoms of two, of which the second stands behind the first.
+fn joined(p: Part, q: Part) -> Part
+    requires { ⌜ p .to ≤ q .from ⌝ }
+    ensures { λ r. ⌜ ((a : ℕ) → In p a → In r a) × ((a : ℕ) → In q a → In r a)
+        × ((n : ℕ) → p .from ≤ n → q .from ≤ n → r .from ≤ n) × ((n : ℕ) → p .to ≤ n → q .to ≤ n → r .to ≤ n) ⌝ }
+{
+    if q.to <= q.from {
+        return p;
+    }
+    if p.to <= p.from {
+        return q;
+    }
+    Part {
+        from: p.from,
+        to: q.to,
+    }
 }
 
 // The first atom from one number up to another that is in the range; the second number where there is none.
@@ -108,22 +153,35 @@ fn past_inside(b: &[u8], h: Head, g: Range, from: usize) -> usize
     from
 }
 
-// A part of the atoms in which every atom of the range stands. Among those whose serials ascend both ends are found by halving; the others are read, from the
-// last one down to one of the range, and where the range has none that ascend also from the first one on.
-pub fn stretch(b: &[u8], h: Head, ascending: usize, g: Range) -> Part
-    requires { ⌜ Whole (now b) h × Ascending (jobOf (now b) h) ascending × (g .stop < 4294967296) ⌝ }
+// The part of both runs in which their atoms of the range stand.
+fn near(b: &[u8], h: Head, order: Order, g: Range) -> Part
+    requires { ⌜ Whole (now b) h × Orders (jobOf (now b) h) order × (g .stop < 4294967296) ⌝ }
+    ensures { λ r. ⌜ Holds (jobOf (now (b .entry)) h) g 0 (order .second) r ⌝ }
+{
+    let p = part_of_run(b, h, g, 0, order.first);
+    let q = part_of_run(b, h, g, order.first, order.second);
+    joined(p, q)
+}
+
+// A part of the atoms in which every atom of the range stands. In the two runs it is found by halving; the atoms behind them are read, from the last one down to
+// one of the range, and where the range has none in the runs also from the first one on.
+pub fn stretch(b: &[u8], h: Head, order: Order, g: Range) -> Part
+    requires { ⌜ Whole (now b) h × Orders (jobOf (now b) h) order × (g .stop < 4294967296) ⌝ }
     ensures { λ r. ⌜ Reaches (jobOf (now (b .entry)) h) g r ⌝ }
 {
-    let lo = count_below(b, h, ascending, g.start);
-    let hi = count_below(b, h, ascending, g.stop + 1);
-    let end = past_inside(b, h, g, ascending);
-    if end == ascending {
-        return Part { from: lo, to: hi };
+    let p = near(b, h, order, g);
+    let runs = order.second;
+    let end = past_inside(b, h, g, runs);
+    if end == runs {
+        return p;
     }
-    if lo < hi {
-        return Part { from: lo, to: end };
+    if p.from < p.to {
+        return Part {
+            from: p.from,
+            to: end,
+        };
     }
-    let from = first_inside(b, h, g, ascending, end);
+    let from = first_inside(b, h, g, runs, end);
     Part { from, to: end }
 }
 

@@ -7,27 +7,27 @@ use Rattle.stretch.proofs.stretch.Tie as tie
 
 returns : tie.Need-returns
 returns c =
-    let args = c .before .before .before .before .before .before .args in
+    let args = c .before .before .before .before .args in
     let O = c .before .past-inside .ensures in
-    reaches-front (jobOf (args .b .now) (args .h)) (args .g) (args .ascending) _ _ _ (c .before .before .before .before .before .before .pre .1 .few) (c .before .before .before .before .count-below .ensures) (c .before .before .count-below2 .ensures) (O .1) (O .2) (omega arith)
+    reaches-front (jobOf (args .b .now) (args .h)) (args .g) (args .order .second) _ _ (c .before .before .before .before .pre .1 .second .few) (c .before .before .near .ensures) (O .1) (O .2) (omega arith)
 
 returns-2 : tie.Need-returns-2
 returns-2 c =
-    let args = c .before .before .before .before .before .before .before .args in
-    let O = c .before .before .past-inside .ensures in
-    reaches-both (jobOf (args .b .now) (args .h)) (args .g) (args .ascending) _ _ _ (c .before .before .before .before .before .before .before .pre .1 .few) (c .before .before .before .before .before .count-below .ensures) (c .before .before .before .count-below2 .ensures) (O .1) (O .2) (O .0) (omega arith)
+    let args = c .before .before .before .before .before .before .args in
+    let O = c .before .before .before .past-inside .ensures in
+    reaches-both (jobOf (args .b .now) (args .h)) (args .g) (args .order .second) _ _ (c .before .before .before .before .before .before .pre .1 .second .few) (c .before .before .before .before .near .ensures) (O .1) (O .2) (O .0)
 
 returns-3 : tie.Need-returns-3
 returns-3 c =
-    let args = c .before .before .before .before .before .before .before .before .args in
-    let O = c .before .before .before .past-inside .ensures in
-    reaches-behind (jobOf (args .b .now) (args .h)) (args .g) (args .ascending) _ _ _ (c .before .before .before .before .before .before .before .before .pre .1 .few) (c .before .before .before .before .before .before .count-below .ensures) (c .before .before .before .before .count-below2 .ensures) (O .1) (O .2) _ (omega arith) (c .first-inside .ensures .0) (c .first-inside .ensures .2)
+    let args = c .before .before .before .before .before .before .before .args in
+    let O = c .before .before .before .before .past-inside .ensures in
+    reaches-behind (jobOf (args .b .now) (args .h)) (args .g) (args .order .second) _ _ (c .before .before .before .before .before .before .before .pre .1 .second .few) (c .before .before .before .before .before .near .ensures) (O .1) (O .2) _ (omega arith) (c .first-inside .ensures .0) (c .first-inside .ensures .2)
 
 pub stretch-spec : {M : Type 1} → statement M
 stretch-spec =
     tie.close
     (tie.spec
-    (λ c κs. search needs) (λ c. search needs) (λ c κs. search needs) (λ c κs. search needs)
+    (λ c κs. search needs) (λ c κs. search needs)
     returns
     returns-2
     (λ c κs. search needs)
