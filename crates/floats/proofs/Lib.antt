@@ -6,6 +6,7 @@ pub mod Squares
 pub mod Roots
 pub mod RootBits
 pub mod Written
+pub mod NearestValue
 pub mod NearestRoot
+pub mod NearestNarrow
 pub mod Signs
-pub mod Cases

@@ -69,21 +69,24 @@ below-sign b h =
     ∙ ap (λ (s : Bool). ofFields binary32 s (b % 2 ^ 31 / 2 ^ 23) (b % 2 ^ 23)) (is-false (leb (2 ^ 31) b) (lt→nleb (2 ^ 31) b h))
     ∙ ap (λ (x : ℕ). ofFields binary32 false (x / 2 ^ 23) (b % 2 ^ 23)) (mod-eq-of-lt h)
 
--- a number of 24 digits and a power, from one number that holds both
-pub split-is : (t m g : ℕ) → t % 2 ^ 23 + 2 ^ 23 ≡ m → t / 2 ^ 23 ≡ g → toBits binary32 (nearestRoot binary32 ((t % 2 ^ 23 + 2 ^ 23) * 2 ^ (t / 2 ^ 23 + 21))) ≡ toBits binary32 (nearestRoot binary32 (m * 2 ^ (g + 21)))
-split-is t m g p q = ap (λ (x : ℕ). toBits binary32 (nearestRoot binary32 (x * 2 ^ (t / 2 ^ 23 + 21)))) p ∙ ap (λ (x : ℕ). toBits binary32 (nearestRoot binary32 (m * 2 ^ (x + 21)))) q
+-- its value, in smallest values: below the normal range, and in it
+pub small-value : (b : ℕ) → b < 2 ^ 23 → HasValue (ofBits binary32 b) false (b * 2 ^ 0) (2 ^ 149)
+small-value b l =
+    subst (λ (y : Float). HasValue y false (b * 2 ^ 0) (2 ^ 149))
+    (sym (below-sign b (lt-of-lt-of-le l (lit≤ tt)) ∙ ap (λ (y : ℕ). ofFields binary32 false y (b % 2 ^ 23)) (none b l) ∙ ap (λ (y : ℕ). ofFields binary32 false 0 y) (mod-eq-of-lt l)))
+    (low-value binary32 false b)
+  where
+    none : (b : ℕ) → b < 2 ^ 23 → b / 2 ^ 23 ≡ 0
+    none b h = omega arith
 
-pub normal-is : (b r : ℕ) → 2 ^ 23 ≤ b → b < 255 * 2 ^ 23 → r ≡ toBits binary32 (nearestRoot binary32 ((b % 2 ^ 23 + 2 ^ 23) * 2 ^ (b / 2 ^ 23 + 127 + 21)))
-    → r ≡ toBits binary32 (root binary32 (ofBits binary32 b))
-normal-is b r lo hi h =
+pub normal-value : (b : ℕ) → 2 ^ 23 ≤ b → b < 255 * 2 ^ 23
+    → HasValue (ofBits binary32 b) false ((2 ^ 23 + b % 2 ^ 23) * 2 ^ (b / 2 ^ 23 - 1)) (2 ^ 149)
+normal-value b lo hi =
     let x = b / 2 ^ 23 - 1 in
     let t = b % 2 ^ 23 in
-    let v : HasValue (ofBits binary32 b) false ((2 ^ 23 + t) * 2 ^ x) (2 ^ 149) =
-    subst (λ (y : Float). HasValue y false ((2 ^ 23 + t) * 2 ^ x) (2 ^ 149)) (sym (below-sign b (under b hi) ∙ ap (λ (y : ℕ). ofFields binary32 false y t) (field b lo)))
-    (mid-value binary32 false x t (less b hi lo)) in
-    h
-    ∙ sym (ap (toBits binary32) (root-at binary32 (ofBits binary32 b) ((2 ^ 23 + t) * 2 ^ x) v (mul-pos (some t) (pow-pos x))
-    ∙ ap (nearestRoot binary32) (mul-assoc (2 ^ 23 + t) (2 ^ x) (2 ^ 149) ∙ ap (λ (y : ℕ). (2 ^ 23 + t) * y) (sym (pow-add 2 x 149) ∙ ap (λ (y : ℕ). 2 ^ y) (same b lo)) ∙ ap (λ (y : ℕ). y * 2 ^ (b / 2 ^ 23 + 127 + 21)) (swap t))))
+    subst (λ (y : Float). HasValue y false ((2 ^ 23 + t) * 2 ^ x) (2 ^ 149))
+    (sym (below-sign b (under b hi) ∙ ap (λ (y : ℕ). ofFields binary32 false y t) (field b lo)))
+    (mid-value binary32 false x t (less b hi lo))
   where
     under : (b : ℕ) → b < 255 * 2 ^ 23 → b < 2 ^ 31
     under b h = omega arith
@@ -94,6 +97,20 @@ normal-is b r lo hi h =
     less : (b : ℕ) → b < 255 * 2 ^ 23 → 2 ^ 23 ≤ b → suc (b / 2 ^ 23 - 1) < 255
     less b h l = omega arith
 
+-- a number of 24 digits and a power, from one number that holds both
+pub split-is : (t m g : ℕ) → t % 2 ^ 23 + 2 ^ 23 ≡ m → t / 2 ^ 23 ≡ g → toBits binary32 (nearestRoot binary32 ((t % 2 ^ 23 + 2 ^ 23) * 2 ^ (t / 2 ^ 23 + 21))) ≡ toBits binary32 (nearestRoot binary32 (m * 2 ^ (g + 21)))
+split-is t m g p q = ap (λ (x : ℕ). toBits binary32 (nearestRoot binary32 (x * 2 ^ (t / 2 ^ 23 + 21)))) p ∙ ap (λ (x : ℕ). toBits binary32 (nearestRoot binary32 (m * 2 ^ (x + 21)))) q
+
+pub normal-is : (b r : ℕ) → 2 ^ 23 ≤ b → b < 255 * 2 ^ 23 → r ≡ toBits binary32 (nearestRoot binary32 ((b % 2 ^ 23 + 2 ^ 23) * 2 ^ (b / 2 ^ 23 + 127 + 21)))
+    → r ≡ toBits binary32 (root binary32 (ofBits binary32 b))
+normal-is b r lo hi h =
+    let x = b / 2 ^ 23 - 1 in
+    let t = b % 2 ^ 23 in
+    let v : HasValue (ofBits binary32 b) false ((2 ^ 23 + t) * 2 ^ x) (2 ^ 149) = normal-value b lo hi in
+    h
+    ∙ sym (ap (toBits binary32) (root-at binary32 (ofBits binary32 b) ((2 ^ 23 + t) * 2 ^ x) v (mul-pos (some t) (pow-pos x))
+    ∙ ap (nearestRoot binary32) (mul-assoc (2 ^ 23 + t) (2 ^ x) (2 ^ 149) ∙ ap (λ (y : ℕ). (2 ^ 23 + t) * y) (sym (pow-add 2 x 149) ∙ ap (λ (y : ℕ). 2 ^ y) (same b lo)) ∙ ap (λ (y : ℕ). y * 2 ^ (b / 2 ^ 23 + 127 + 21)) (swap t))))
+  where
     same : (b : ℕ) → 2 ^ 23 ≤ b → b / 2 ^ 23 - 1 + 149 ≡ b / 2 ^ 23 + 127 + 21
     same b h = omega arith
 
@@ -211,17 +228,11 @@ module _ (b : ℕ) (h : 0 < b) (l : b < 2 ^ 23) where
   pub small-is : (r : ℕ) → r ≡ toBits binary32 (nearestRoot binary32 (b * 2 ^ (leadingZeros 32 b - 8) % 2 ^ 64 * 2 ^ (128 - (leadingZeros 32 b - 8) + 21))) → r ≡ toBits binary32 (root binary32 (ofBits binary32 b))
   small-is r e =
       let s = leadingZeros 32 b - 8 in
-      let v : HasValue (ofBits binary32 b) false (b * 2 ^ 0) (2 ^ 149) =
-      subst (λ (y : Float). HasValue y false (b * 2 ^ 0) (2 ^ 149))
-      (sym (below-sign b (lt-of-lt-of-le l (lit≤ tt)) ∙ ap (λ (y : ℕ). ofFields binary32 false y (b % 2 ^ 23)) (none b l) ∙ ap (λ (y : ℕ). ofFields binary32 false 0 y) (mod-eq-of-lt l)))
-      (low-value binary32 false b) in
+      let v : HasValue (ofBits binary32 b) false (b * 2 ^ 0) (2 ^ 149) = small-value b l in
       e
       ∙ sym (ap (toBits binary32) (root-at binary32 (ofBits binary32 b) (b * 2 ^ 0) v (mul-pos h (pow-pos 0))
       ∙ ap (nearestRoot binary32) (ap (λ (y : ℕ). y * 2 ^ 149) (mul-one b) ∙ sym (ap (λ (y : ℕ). y * 2 ^ (128 - s + 21)) lifted-is ∙ mul-assoc b (2 ^ s) (2 ^ (128 - s + 21)) ∙ ap (λ (y : ℕ). b * y) (sym (pow-add 2 s (128 - s + 21)) ∙ ap (λ (y : ℕ). 2 ^ y) (join (leadingZeros 32 b) lift-le))))))
     where
-      none : (b : ℕ) → b < 2 ^ 23 → b / 2 ^ 23 ≡ 0
-      none b h = omega arith
-
       join : (z : ℕ) → z ≤ 31 → z - 8 + (128 - (z - 8) + 21) ≡ 149
       join z h = omega arith
 
