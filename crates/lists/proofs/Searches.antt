@@ -6,12 +6,12 @@ use mathlib.Core.Logic.{⊎-elim}
 use native.Mathlib.Nat.{eq-or-lt-of-le, le-of-suc-le-suc}
 use native.Mathlib.Numerals.{add-one}
 use native.Mathlib.Omega.{arith}
-use Rattle.lists.specs.Search.{orElse, first, last}
+use Rattle.lists.specs.Search.{IsFirst, IsLast, None, orElse, first, last}
 use Rattle.lists.proofs.Bools.{clash}
 
 -- ---- the first number below n that a test takes
--- none is taken
-pub first-none : (t : ℕ → Bool) (n : ℕ) → ((k : ℕ) → k < n → t k ≡ false) → first t n ≡ 0
+-- where none is taken it is 0
+pub first-none : (t : ℕ → Bool) (n : ℕ) → None t n → first t n ≡ 0
 unfolding first
 first-none t zero h = refl
 first-none t (suc n) h = rw (first-none t n (λ k l. h k (omega arith)), h n (omega arith))
@@ -79,7 +79,7 @@ some-first t (suc n) i l e = ⊎-elim (λ q. rw (← q, e) (at (first t i))) (λ
     earlier zero h = absurd (omega arith)
     earlier (suc a) h = h
 
-pub first-false : (t : ℕ → Bool) (n : ℕ) → first t n ≡ 0 → (i : ℕ) → i < n → t i ≡ false
+pub first-false : (t : ℕ → Bool) (n : ℕ) → first t n ≡ 0 → None t n
 first-false t n e i l = go (t i) refl
   where
     go : (b : Bool) → t i ≡ b → t i ≡ false
@@ -158,3 +158,56 @@ last-up t (suc n) i l e = go (t n) refl (last-up t n i)
         (λ z. clash e (ap t z ∙ q))
         (λ z. f z e)
         (eq-or-lt-of-le (le-of-suc-le-suc l))
+
+-- ---- what `first` and `last` mean, both ways
+
+-- one more than i exactly where i is the first
+pub first-is : (t : ℕ → Bool) (n i : ℕ) → first t n ≡ suc i → IsFirst t n i
+unfolding first
+first-is t zero i e = absurd (omega arith)
+first-is t (suc n) i e = go (first t n) refl (t n) refl e (first-is t n i)
+  where
+    go : (a : ℕ) → first t n ≡ a → (b : Bool) → t n ≡ b → orElse a (cond b (suc n) zero) ≡ suc i → (first t n ≡ suc i → IsFirst t n i) → IsFirst t (suc n) i
+    go zero q true p e f =
+        let z : n ≡ i = omega arith in
+        record { below = omega arith; taken = subst (λ (k : ℕ). t k ≡ true) z p; before = λ k l. first-false t n q k (omega arith) }
+    go zero q false p e f = absurd (omega arith)
+    go (suc a) q b p e f = let r = f (q ∙ e) in record { below = omega (arith, r .below); taken = r .taken; before = r .before }
+
+pub is-first : (t : ℕ → Bool) (n i : ℕ) → IsFirst t n i → first t n ≡ suc i
+is-first t n i F = first-suc t n i (F .below) (F .before) (F .taken)
+
+-- and 0 exactly where there is none: `first-none`, `first-false` above
+
+-- the same of the last
+pub last-is : (t : ℕ → Bool) (n i : ℕ) → last t n ≡ suc i → IsLast t n i
+last-is t n i e = let z = last-true t n i e in record { below = z .1; taken = z .0; after = λ k l h. above k l h (t k) refl }
+  where
+    above : (k : ℕ) → i < k → k < n → (b : Bool) → t k ≡ b → t k ≡ false
+    above k l h true q = absurd (omega (arith, last-up t n k h q))
+    above k l h false q = q
+
+pub is-last : (t : ℕ → Bool) (n i : ℕ) → IsLast t n i → last t n ≡ suc i
+is-last t n i L = go (last t n) refl
+  where
+    go : (a : ℕ) → last t n ≡ a → last t n ≡ suc i
+    go zero q = absurd (omega (arith, last-up t n i (L .below) (L .taken)))
+    go (suc a) q =
+        let z = last-true t n a q in
+        let up : i ≤ a = omega (arith, last-up t n i (L .below) (L .taken)) in
+        ⊎-elim
+        (λ (e : i ≡ a). q ∙ ap suc (sym e))
+        (λ (l : i < a). clash (z .0) (L .after a l (z .1)))
+        (eq-or-lt-of-le up)
+
+pub last-false : (t : ℕ → Bool) (n : ℕ) → last t n ≡ 0 → None t n
+last-false t n e k h = go (t k) refl
+  where
+    go : (b : Bool) → t k ≡ b → t k ≡ false
+    go true q = absurd (omega (arith, last-up t n k h q))
+    go false q = q
+
+pub last-none : (t : ℕ → Bool) (n : ℕ) → None t n → last t n ≡ 0
+unfolding last
+last-none t zero h = refl
+last-none t (suc n) h = rw (h n (omega arith), last-none t n (λ k l. h k (omega arith)))

@@ -1,6 +1,25 @@
 -- 'The first ..' and 'the last ..' of 01: the first and the last number below n that a test takes, counted from 1, so that 0 says that there is none.
-use Prim.Native.Nat.{ℕ, zero, suc}
-use mathlib.Core.Bool.{Bool, cond}
+-- What they mean is said by `IsFirst`, `IsLast` and `None`: they are one more than i exactly where i is the first, or the last, and 0 exactly where
+-- there is none (`first-is`, `is-first`, `first-none`, `first-false`, `last-is`, `is-last`, `last-none`, `last-false` of proofs/Searches).
+use Prim.Native.Nat.{ℕ, zero, suc, _<_}
+use mathlib.Core.Bool.{Bool, true, false, cond}
+use mathlib.Core.Path.{_≡_}
+
+-- i is the first number below n that the test takes: it is taken, and none before it is
+pub record IsFirst (t : ℕ → Bool) (n i : ℕ) : Type 0 where
+  pub below : i < n
+  pub taken : t i ≡ true
+  pub before : (k : ℕ) → k < i → t k ≡ false
+
+-- i is the last: it is taken, and none after it is
+pub record IsLast (t : ℕ → Bool) (n i : ℕ) : Type 0 where
+  pub below : i < n
+  pub taken : t i ≡ true
+  pub after : (k : ℕ) → i < k → k < n → t k ≡ false
+
+-- the test takes no number below n
+abbrev pub None : (ℕ → Bool) → ℕ → Type 0
+None t n = (k : ℕ) → k < n → t k ≡ false
 
 -- `a` where it is not 0, and otherwise `b`
 abbrev pub orElse : ℕ → ℕ → ℕ
