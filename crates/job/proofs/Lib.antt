@@ -1,3 +1,4 @@
 pub mod Laws
 pub mod Coordinate
 pub mod Accepted
+pub mod Told

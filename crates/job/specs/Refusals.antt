@@ -47,6 +47,6 @@ carried (NoJobRoom n) = n ∷ []
 abbrev pub three : List ℕ → List ℕ
 three l = getD l 0 0 ∷ getD l 1 0 ∷ getD l 2 0 ∷ []
 
--- a refusal as four numbers, for programs and for C: its own, and what it carries
+-- a refusal as four numbers, by which promises, programs and the calls for C say it: its own, and what it carries, with 0 where there is nothing
 abbrev pub refusalNumbers : Refusal → List ℕ
 refusalNumbers r = numberOf r ∷ three (carried r)
