@@ -1,7 +1,7 @@
 -- The samples of a tube over n spline points p and n guides g: sample s is at parameter t of span i.
 use mathlib.Core.Bool.{cond}
 use mathlib.Core.List.{List, [], _∷_}
-use Prim.Native.Nat.{ℕ, _+_, _*_, _-_, _/_, _%_}
+use Prim.Native.Nat.{ℕ, _+_, _-_, _/_, _%_}
 use lib.Dec.{ltb, eqb}
 use lib.IntN.{pos}
 use lib.Ieee.{Float, binary32, ofInt, le}
@@ -30,10 +30,7 @@ spanOf p n i =
     beforeOf p i (vecAt p i) (vecAt p (i + 1)) ∷ vecAt p i ∷ vecAt p (i + 1) ∷
     afterOf p n i (vecAt p i) (vecAt p (i + 1)) ∷ []
 
--- 01: 'There are 8(n-1)+1 samples; the last uses span n-2 with t = 1'
-unfoldable pub sampleCount : ℕ → ℕ
-sampleCount n = 8 * (n - 1) + 1
-
+-- 01: 'There are 8(n-1)+1 samples; the last uses span n-2 with t = 1': the span and the t of sample s, for s from 0 to 8(n-1)
 unfoldable pub spanAt : ℕ → ℕ → ℕ
 spanAt n s = cond (ltb (s / 8 + 1) n) (s / 8) (n - 2)
 

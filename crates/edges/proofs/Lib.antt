@@ -1,6 +1,6 @@
 pub mod Theorems
-pub mod Cases
 pub mod Count
+pub mod Two
 pub mod Family
 pub mod Piece
 pub mod Stack

@@ -5,11 +5,11 @@ use mathlib.Core.List.{List, [], _∷_, _++_, map, map-append}
 use Prim.Native.Nat.{ℕ, zero, suc, _+_, _*_, _-_}
 use native.Mathlib.Nat.{add-assoc}
 use native.Mathlib.Omega.{arith}
-use borrow.Author.Tests.{lt-ltb, le-ltb}
 use mathlib.Core.Logic.{⊎-elim}
 use Rattle.lists.specs.Put.{upto}
 use Rattle.edges.specs.Tube.{capSide, bandSide, cap, band, ring, bandAt, startCentre, endCentre, stack, tube, vertices, mesh, renumbered}
 use Rattle.edges.proofs.Count.{lt-or-le}
+use Rattle.edges.proofs.Two.{under-two, from-two}
 use Rattle.lists.proofs.Puts.{map-upto}
 
 module _ (p o : ℕ) where
@@ -46,8 +46,10 @@ module _ (p o : ℕ) where
       (cap-up false (endCentre p 0 m) (ring p 0 m) ∙ ap₂ (cap p false) (omega arith) (ring-up m))
 
   pub tube-up : (d n : ℕ) → map up (tube p d 0 n) ≡ tube p d o n
-  unfolding tube
-  tube-up d n = ⊎-elim (λ h. simp (lt-ltb n 2 h)) (λ h. simp (le-ltb n 2 h) (stack-up (d * (n - 1)))) (lt-or-le n 2)
+  tube-up d n = ⊎-elim
+      (λ h. ap (map up) (under-two p d 0 n h .3) ∙ sym (under-two p d o n h .3))
+      (λ h. ap (map up) (from-two p d 0 n h) ∙ stack-up (d * (n - 1)) ∙ sym (from-two p d o n h))
+      (lt-or-le n 2)
 
 -- what was numbered k after o is numbered k after q
 renumbered-up : (o q k : ℕ) (l : List ℕ) → renumbered o q (map (λ c. o + k + c) l) ≡ map (λ c. q + k + c) l

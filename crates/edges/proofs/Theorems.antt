@@ -12,6 +12,7 @@ use lib.Seq.{take-append-seam, drop-at}
 use Rattle.edges.specs.Sound.{occurs, EdgesPaired, Sound, MeshPart}
 use Rattle.edges.specs.Tube.{rings, vertices, triangles, vertexCount, triangleCount, stack, tube, mesh, vertexTotal, triangleTotal, renumbered}
 use Rattle.edges.proofs.Count.{lt-or-le}
+use Rattle.edges.proofs.Two.{under-two, from-two}
 use Rattle.edges.proofs.Stack.{stack-size}
 use Rattle.edges.proofs.Glue.{recount, empty-sound, stack-sound, glue, glue-paired, unglue, unglue-sound, joined}
 use Rattle.edges.proofs.Owned.{EdgesOwned, owned, paired}
@@ -19,6 +20,10 @@ use Rattle.edges.proofs.Renumber.{renumber, renumber-part, renumber-pai
 use Rattle.edges.proofs.Shift.{mesh-moved}
 
 -- ---- counts
+
+-- 'n = 1 gives none': under two residues there are no rings, no vertices, no triangles and no corners
+pub no-tube : (p d o n : ℕ) → n < 2 → (rings d n ≡ 0) × (vertices p d n ≡ 0) × (triangles p d n ≡ 0) × (tube p d o n ≡ [])
+no-tube = under-two
 
 -- a tube has d(n-1)+1 rings, p times that plus 2 vertices, and 2pd(n-1)+2p triangles
 pub counts : (p d n : ℕ) → 2 ≤ n
@@ -36,17 +41,11 @@ vertex-count n h = ribbon-counts n h .1
 pub triangle-count : (n : ℕ) → 2 ≤ n → triangleCount n ≡ 128 * n - 112
 triangle-count n h = ribbon-counts n h .2
 
--- one residue, or none, gives none
-pub no-tube : (p d o n : ℕ) → n < 2 → (rings d n ≡ 0) × (vertices p d n ≡ 0) × (triangles p d n ≡ 0) × (tube p d o n ≡ [])
-unfolding rings vertices triangles tube
-no-tube p d o n h = simp (lt-ltb n 2 h) (refl, refl, refl, refl)
-
 -- ---- a tube
 
 -- it is the start cap, d(n-1) bands and the end cap
 pub tube-is : (p d o n : ℕ) → 2 ≤ n → tube p d o n ≡ stack p o (d * (n - 1))
-unfolding tube
-tube-is p d o n h = simp (le-ltb n 2 h)
+tube-is = from-two
 
 -- three corners are written for each triangle that is counted
 pub tube-size : (p d o n : ℕ) → length (tube p d o n) ≡ 3 * triangles p d n
@@ -68,6 +67,11 @@ tube-sound p d o n sides = ⊎-elim
 -- its edge rule alone, in full
 pub tube-edges : (p d o n : ℕ) → 3 ≤ p → (x y : ℕ) → 0 < occurs x y (tube p d o n) → (occurs x y (tube p d o n) ≡ 1) × (occurs y x (tube p d o n) ≡ 1)
 tube-edges p d o n sides = tube-sound p d o n sides .paired
+
+-- the edge rule refuses something: a triangle by itself has edges with no reverse
+pub lone-triangle : EdgesPaired (0 ∷ 1 ∷ 2 ∷ []) → ⊥
+unfolding occurs
+lone-triangle rule = omega (arith, rule 0 1 (omega arith))
 
 -- the edge rule says no less than this: no two corners start one edge, and for each corner some corner starts the reverse of its edge
 pub edges-owned : (t : ℕ) (l : List ℕ) → length l ≡ 3 * t → EdgesPaired l ↔ EdgesOwned l

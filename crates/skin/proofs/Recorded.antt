@@ -6,7 +6,7 @@ use Prim.Native.Nat.{ℕ}
 use lib.Count.{trailingZeros}
 use lib.Dec.{T}
 use lib.ListN.{getD}
-use lib.Ieee.{Float, toBits, ofBits, ofFields, odd, span, climb, size, units, round, sum, add, sub, neg, mul, div, ofInt, lt, eq, le, isNan}
+use lib.Ieee.{Float, binary32, toBits, ofBits, ofFields, odd, span, climb, size, units, round, sum, add, sub, neg, mul, div, ofInt, lt, eq, le, isNan}
 use Rattle.floats.specs.Floats.{root, nearestRoot, floorRoot, rootDigits, greater, absolute}
 use Rattle.vectors.specs.Vec.{vadd, vsub, vscale, vcross, vdot, vlength, normalised, vecAt, lit, floats}
 use Rattle.lists.specs.Put.{put, upto}
@@ -21,7 +21,6 @@ use Rattle.curve.specs.Smooth.{guidePass, positionPass, repeated, smoothGuides,
 use Rattle.curve.specs.Residues.{tangentAt, rawAt, signedAt, signed, sumOf, same, settled, guidesOf, pointsOf}
 use Rattle.curve.specs.Samples.{spanOf, spanAt, paramAt, frameOf, frameAt, ringAt}
 use Rattle.skin.specs.Tube.{ordered, eight, ringPositions, ringNormals, startNormal, endNormal, skinPositions, skinNormals}
-use Rattle.skin.proofs.Cases.{words}
 use Rattle.lists.specs.Same.{sameList}
 
 -- the C-alphas and the oxygens
@@ -30,6 +29,12 @@ bent = lit 0x00000000 ∷ lit 0x3f000000 ∷ lit 0x3e800000 ∷ lit 0x40600000 �
 
 pub oxygens : ℕ → Oxygen
 oxygens i = getD (At (lit 0x3f000000) (lit 0x40200000) (lit 0x3f400000) ∷ Missing ∷ At (lit 0x40e00000) (lit 0xbf800000) (lit 0x40100000) ∷ []) i Missing
+
+-- floats by their bits
+unfoldable pub words : List Float → List ℕ
+unfolding toBits
+words [] = []
+words (x ∷ xs) = toBits binary32 x ∷ words xs
 
 pub data Case : Type 0 where
   ring : Kind → ℕ → List ℕ → List ℕ → Case

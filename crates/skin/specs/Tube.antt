@@ -11,7 +11,7 @@ use Rattle.shape.specs.declared.Oxygen.{Oxygen}
 use Rattle.curve.specs.Residues.{guidesOf, pointsOf}
 use Rattle.curve.specs.Samples.{frameAt, ringAt, tagAt}
 
--- 01: 'Vertices: ring, start centre, later rings, end centre'
+-- 01: 'Vertices: ring, start centre, later rings, end centre', and 'There are 8(n-1)+1 samples', a ring each: ring 0 and 8(n-1) later ones
 unfoldable pub ordered : {A : Type 0} → ℕ → (ℕ → List A) → List A → List A → List A
 ordered n ring start end = ((ring 0 ++ start) ++ upto (λ (s : ℕ). ring (s + 1)) (8 * (n - 1))) ++ end
 

@@ -165,7 +165,8 @@ fn end_cap(
 )
     requires { ⌜ Course (now points) (now guides) n first kind spokes × VertexRoom (now positions) (now normals) (now tags) (v + 9) ⌝ }
     ensures { λ _. ⌜ Wrote (now (positions .entry)) (now (normals .entry)) (now (tags .entry)) v
-        (ringPositions kind (now (points .entry)) (now (guides .entry)) n (8 * (n - 1)) ++ floats (frameAt (now (points .entry)) (now (guides .entry)) n (8 * (n - 1)) .position))
+        (ringPositions kind (now (points .entry)) (now (guides .entry)) n (8 * (n - 1))
+        ++ floats (frameAt (now (points .entry)) (now (guides .entry)) n (8 * (n - 1)) .position))
         (ringNormals kind (now (points .entry)) (now (guides .entry)) n (8 * (n - 1)) ++ floats (endNormal (now (points .entry)) n))
         (ringTags first n (8 * (n - 1)) ++ ((first + (n - 1)) ∷ []))
         (now (positions .exit)) (now (normals .exit)) (now (tags .exit)) ⌝ }

@@ -1,1 +1,4 @@
-pub mod Answers
+pub mod Jobs
+pub mod Opened
+pub mod Tests
+pub mod Table

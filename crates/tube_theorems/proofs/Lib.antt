@@ -1,5 +1,4 @@
 pub mod Theorems
-pub mod Cases
 pub mod Linked
 pub mod Tubes
 pub mod Sums
