@@ -27,7 +27,7 @@ firstOf u = getD (u .residues) 0 0
 abbrev pub sizeOf : Tube → ℕ
 sizeOf u = length (u .residues)
 
--- 'kind (0 coil, 1 helix, 2 sheet)'
+-- 'kind (0 coil, 1 helix, 2 sheet)'; no tube of an accepted job has a kind above 2 (`tube-kind` of tube_theorems)
 unfoldable pub kindOf : ℕ → Kind
 kindOf zero = Coil
 kindOf (suc zero) = Helix

@@ -10,7 +10,7 @@ ghost use lib.ListN.{length};
 ghost use Rattle.lists.specs.Put.{put};
 ghost use Rattle.protein.specs.Layout.{Whole};
 ghost use Rattle.protein.specs.Places.{placeOf};
-ghost use Rattle.mesh.specs.Outs.{Room, outs, writtenBy, Atoms};
+ghost use Rattle.mesh.specs.Outs.{Room, lends, held, holds, writtenBy, Atoms};
 ghost use Rattle.mesh.specs.Mesh.{kindOf, spotOf, spots};
 ghost use Rattle.edges.specs.Tube.{vertexCount, triangleCount};
 
@@ -102,10 +102,10 @@ pub fn write_tube(
         × (length (now course) ≡ 6 * length (now alphas)) ⌝ }
     requires { ⌜ (v + vertexCount (length (now alphas)) ≤ 1048576) × (t ≤ 2 * v)
         × Room (k + 1) (v + vertexCount (length (now alphas))) (t + triangleCount (length (now alphas)))
-        (outs (now positions) (now normals) (now tags) (now triangles) (now tubes) (now boxes)) ⌝ }
-    ensures { λ _. ⌜ outs (now (positions .exit)) (now (normals .exit)) (now (tags .exit)) (now (triangles .exit)) (now (tubes .exit)) (now (boxes .exit))
+        (lends positions normals tags triangles tubes boxes) ⌝ }
+    ensures { λ _. ⌜ holds positions normals tags triangles tubes boxes
         ≡ writtenBy (placeOf (now (b .entry)) h) kind first (now (alphas .entry)) (now (oxygens .entry)) k v t
-        (outs (now (positions .entry)) (now (normals .entry)) (now (tags .entry)) (now (triangles .entry)) (now (tubes .entry)) (now (boxes .entry))) ⌝ }
+        (held positions normals tags triangles tubes boxes) ⌝ }
 {
     let n = alphas.len();
     let three = 3 * n;

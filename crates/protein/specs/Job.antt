@@ -21,7 +21,7 @@ pub record Job : Type 0 where
   pub residue : ℕ → ℕ
   pub chain : ℕ → ℕ
 
--- 01, 'Job bytes': 'visible 1 or hidden 0'; 'kind, u32 start serial, u32 end serial'; 'u32 serial, role, u16 residue, u16 chain'
+-- 01, 'Job bytes': 'visible 1 or hidden 0'; 'kind .., u32 start serial, u32 end serial'; 'u32 serial, role .., u16 residue, u16 chain'
 abbrev pub jobOf : List ℕ → Head → Job
 jobOf s h = record {
   atoms = h .atoms;

@@ -21,7 +21,7 @@ headOf s = record { chains = u16At s 5; residues = u16At s 7; segments = u16At s
 abbrev pub chainAt : ℕ → ℕ
 chainAt c = 13 + c
 
--- 'Then S records of 9 bytes: kind, u32 start serial, u32 end serial'
+-- 'Then S records of 9 bytes: kind .., u32 start serial, u32 end serial'
 abbrev pub segmentAt : Head → ℕ → ℕ
 segmentAt h i = 13 + h .chains + 9 * i
 
@@ -34,7 +34,7 @@ startAt h i = segmentAt h i + 1
 abbrev pub endAt : Head → ℕ → ℕ
 endAt h i = segmentAt h i + 5
 
--- 'Then A records of 33 bytes: u32 serial, role, u16 residue, u16 chain, x, y, z as f64 bits'
+-- 'Then A records of 33 bytes: u32 serial, role .., u16 residue, u16 chain, x, y, z as f64 bits'
 abbrev pub atomAt : Head → ℕ → ℕ
 atomAt h a = 13 + h .chains + 9 * h .segments + 33 * a
 
@@ -67,7 +67,7 @@ jobSize h = atomAt h (h .atoms)
 abbrev pub none : ℕ
 none = 65535
 
--- a job that passed checks 1 to 4
+-- what checks 3 and 4 say of a job's counts, and of its size by them
 pub record Whole (s : List ℕ) (h : Head) : Type 0 where
   pub head : h ≡ headOf s
   pub size : length s ≡ jobSize h
