@@ -58,6 +58,6 @@ endThousandths m u d =
 unfoldable pub whole : List ℕ → Number
 whole l = signedField endWhole l
 
--- 'coordinates end in a point and three digits', 'coordinates are whole thousandths'
+-- 'coordinates end in a point and three digits', 'Coordinates are whole thousandths'
 unfoldable pub thousandths : List ℕ → Number
 thousandths l = signedField endThousandths l

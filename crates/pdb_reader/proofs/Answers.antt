@@ -22,7 +22,7 @@ use Rattle.pdb_survey.specs.declared.Overview.{Overview}
 use Rattle.pdb_job.specs.Structure.{Structure, chainsOf, residuesOf, structureSize, structureOf}
 use Rattle.pdb_job.specs.Counted.{Counted, Limited}
 use Rattle.pdb_faults.proofs.AtFault.{clean-is, all-ahead}
-use Rattle.pdb_reader.specs.Call.{pastLimits, byFault, readChecks, readAnswer, readBy, bufferAfter}
+use Rattle.pdb_reader.specs.Call.{pastLimits, byFault, readChecks, readAnswer, readBy, bufferAfter, Reads}
 use Rattle.pdb_reader.specs.declared.Read.{Read}
 use Rattle.pdb_reader.specs.declared.Read.the-variants.{Written, NoJob}
 use Rattle.lists.proofs.Bools.{or-no}
@@ -118,24 +118,40 @@ surveyed-counts s keys links ends marks v S e = record {
 }
 
 -- ---- the whole answer
-module _ (s out : List ℕ) (f : Fault) (ef : f ≡ faultIn s) where
-  -- a fault, or counts past the limits
-  pub refused : (r : Read) → r ≡ byFault f (NoJob PastLimits) → (isClean f ≡ true → pastLimits (structureOf s) ≡ true) → (r ≡ readAnswer s (length out)) × (out ≡ bufferAfter s out)
-  unfolding readAnswer readChecks bufferAfter
-  refused r er past = rw (← ef) (go f er past)
-    where
-      go : (g : Fault) → r ≡ byFault g (NoJob PastLimits) → (isClean g ≡ true → pastLimits (structureOf s) ≡ true)
-          → (r ≡ byFault g (readChecks (structureOf s) (length out))) × (out ≡ readBy (byFault g (readChecks (structureOf s) (length out))) s out)
-      go Clean e p = (e ∙ sym (checks (p refl)), ap (λ (x : Read). readBy x s out) (sym (checks (p refl))))
-        where
-          checks : pastLimits (structureOf s) ≡ true → readChecks (structureOf s) (length out) ≡ NoJob PastLimits
-          checks m = simp m
-      go (LineShort n) e p = (e, refl)
-      go (LineWrong n) e p = (e, refl)
-      go (NoResidue n) e p = (e, refl)
 
-  pub right : isClean f ≡ true → (r : Read) (out′ : List ℕ) → r ≡ readChecks (structureOf s) (length out) → out′ ≡ readBy r s out → (r ≡ readAnswer s (length out)) × (out′ ≡ bufferAfter s out)
-  unfolding readAnswer bufferAfter
-  right c r out′ er eo =
-      let z : byFault (faultIn s) (readChecks (structureOf s) (length out)) ≡ r = ap (λ (g : Fault). byFault g (readChecks (structureOf s) (length out))) (sym ef ∙ clean-is f c) ∙ sym er in
-      (sym z, eo ∙ ap (λ (x : Read). readBy x s out) (sym z))
+-- what is THE answer and leaves THE contents keeps the promise
+reads : (s out : List ℕ) (r : Read) (out′ : List ℕ)
+    → r ≡ readAnswer s (length out) → out′ ≡ bufferAfter s out → Reads s out r out′
+reads s out r out′ e b = record { answer = cc; buffer = cc }
+
+module _ (s out : List ℕ) (f : Fault) (ef : f ≡ faultIn s) where
+  by-fault-is : (r : Read) → byFault f (readChecks (structureOf s) (length out)) ≡ r → readAnswer s (length out) ≡ r
+  unfolding readAnswer
+  by-fault-is r e = ap (λ (g : Fault). byFault g (readChecks (structureOf s) (length out))) (sym ef) ∙ e
+
+  by-answer : (r : Read) (out′ : List ℕ) → readAnswer s (length out) ≡ r → out′ ≡ readBy r s out → Reads s out r out′
+  unfolding bufferAfter
+  by-answer r out′ e b = reads s out r out′ (sym e) (b ∙ ap (λ (x : Read). readBy x s out) (sym e))
+
+  -- a fault, or counts past the limits
+  pub refused : (r : Read) → r ≡ byFault f (NoJob PastLimits)
+      → (isClean f ≡ true → pastLimits (structureOf s) ≡ true) → Reads s out r out
+  unfolding readChecks
+  refused r er past = by-answer r out (by-fault-is r (go f past ∙ sym er)) (rw er (kept f))
+    where
+      go : (g : Fault) → (isClean g ≡ true → pastLimits (structureOf s) ≡ true)
+          → byFault g (readChecks (structureOf s) (length out)) ≡ byFault g (NoJob PastLimits)
+      go Clean p = simp (p refl)
+      go (LineShort n) p = refl
+      go (LineWrong n) p = refl
+      go (NoResidue n) p = refl
+
+      kept : (g : Fault) → out ≡ readBy (byFault g (NoJob PastLimits)) s out
+      kept Clean = refl
+      kept (LineShort n) = refl
+      kept (LineWrong n) = refl
+      kept (NoResidue n) = refl
+
+  pub right : isClean f ≡ true → (r : Read) (out′ : List ℕ)
+      → r ≡ readChecks (structureOf s) (length out) → out′ ≡ readBy r s out → Reads s out r out′
+  right c r out′ er eo = by-answer r out′ (by-fault-is r (rw (clean-is f c) (sym er))) eo

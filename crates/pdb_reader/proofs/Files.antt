@@ -1,15 +1,15 @@
--- Which files are the same to the reader, and what the lent room decides: theorems over the definitions of specs/Call. Each says in its comment what it answers. Assumes nothing.
-use Prim.Native.Nat.{ℕ, _+_, _≤_, _<_}
+-- Which files are the same to the reader: theorems over `Reads` (specs/Call), which is the promise of `read_pdb`. Each
+-- says in its comment what it answers. Assumes nothing.
+use Prim.Native.Nat.{ℕ, _+_}
 use mathlib.Core.Bool.{Bool, true, false, cond}
 use mathlib.Core.Path.{_≡_, refl, sym, ap, _∙_}
 use mathlib.Core.List.{List, [], _∷_, _++_}
-use native.Mathlib.Omega.{arith}
-use lib.Dec.{eqb, ltb}
+use lib.Dec.{eqb}
 use lib.Ieee.{round, toBits}
 use lib.ListN.{length}
-use borrow.Author.Tests.{eqb-true, eqb-false, ltb-true, lt-ltb, le-ltb}
+use borrow.Author.Tests.{eqb-true, eqb-false}
 use Rattle.lists.specs.Put.{put}
-use Rattle.job.specs.declared.Refusal.the-variants.{PastLimits, NoJobRoom}
+use Rattle.job.specs.declared.Refusal.the-variants.{NoJobRoom}
 use Rattle.appearance.specs.Order.{distinct, member, place}
 use Rattle.coordinates.specs.Coordinate.{coordinate, bits}
 use Rattle.numbers.specs.Bytes.{u16, u32, u64}
@@ -30,25 +30,30 @@ use Rattle.pdb_records.specs.declared.SegmentLine.{SegmentLine}
 use Rattle.pdb_file.specs.Reading.{stops, saw, reading, records, atomsIn, atoms, segmentsIn, segments, atomsOf, segmentsOf}
 use Rattle.pdb_file.specs.Faults.{faultOf, firstFault, faults, faultIn}
 use Rattle.pdb_file.specs.declared.Fault.{Fault}
-use Rattle.pdb_file.specs.declared.Fault.the-variants.{Clean, LineShort, LineWrong, NoResidue}
-use Rattle.pdb_job.specs.Structure.{Structure, structureSize, structureJob, structureOf, pdbJob}
-use Rattle.pdb_reader.specs.Call.{pastLimits, byFault, readChecks, readAnswer, readBy, bufferAfter}
+use Rattle.pdb_job.specs.Structure.{Structure, structureJob, structureOf, pdbJob}
+use Rattle.pdb_reader.specs.Call.{pastLimits, byFault, readChecks, readAnswer, readBy, bufferAfter, Reads}
 use Rattle.pdb_reader.specs.declared.Read.{Read}
 use Rattle.pdb_reader.specs.declared.Read.the-variants.{Written, NoJob}
-use Rattle.pdb_reader.proofs.Demands.{accepted}
+use Rattle.pdb_reader.proofs.Demands.{answered}
 
 -- ==== files that are the same to the reader
 
--- two files that the reader cannot tell apart: one job, one answer in each room, and every lent buffer left alike
+-- two files that no call tells apart: whatever buffer is lent, the same answer and the same final contents; they stand
+-- for one job
 pub record Alike (s t : List ℕ) : Type 0 where
   pub job : pdbJob s ≡ pdbJob t
-  pub answer : (room : ℕ) → readAnswer s room ≡ readAnswer t room
-  pub buffer : (out : List ℕ) → bufferAfter s out ≡ bufferAfter t out
+  pub calls : (out out′ out₂ : List ℕ) (r r₂ : Read)
+      → Reads s out r out′ → Reads t out r₂ out₂ → (r ≡ r₂) × (out′ ≡ out₂)
 
 -- the atoms and segments, and the first fault, are all that the reader makes of a file
 pub same-structure : (s t : List ℕ) → structureOf s ≡ structureOf t → faultIn s ≡ faultIn t → Alike s t
 unfolding readAnswer bufferAfter
-same-structure s t e f = record { job = ap structureJob e; answer = answer; buffer = λ out. ap (λ (r : Read). readBy r s out) (answer (length out)) ∙ each out (readAnswer t (length out)) }
+same-structure s t e f =
+    record {
+      job = ap structureJob e;
+      calls = λ out out′ out₂ r r₂ h k.
+          (sym (answered h) ∙ answer (length out) ∙ answered k, h .buffer ∙ buffer out ∙ sym (k .buffer));
+    }
   where
     answer : (room : ℕ) → readAnswer s room ≡ readAnswer t room
     answer room = ap (λ (g : Fault). byFault g (readChecks (structureOf s) room)) f ∙ ap (λ (x : Structure). byFault (faultIn t) (readChecks x room)) e
@@ -56,6 +61,9 @@ same-structure s t e f = record { job = ap structureJob e; answer = answer; buff
     each : (out : List ℕ) (r : Read) → readBy r s out ≡ readBy r t out
     each out (Written n) = ap (λ (x : Structure). put out 0 (structureJob x)) e
     each out (NoJob r) = refl
+
+    buffer : (out : List ℕ) → bufferAfter s out ≡ bufferAfter t out
+    buffer out = ap (λ (x : Read). readBy x s out) (answer (length out)) ∙ each out (readAnswer t (length out))
 
 -- files with the same records are the same to the reader
 pub same-records : (s t : List ℕ) → records s ≡ records t → Alike s t
@@ -110,14 +118,14 @@ stopped seen (l ∷ ls) e ms h =
     ap (λ (rs : List Record). cond (stops seen (lineKind l)) [] (ofKind (lineKind l) l ∷ rs)) (stopped (saw seen (lineKind l)) ls e ms h)
 
 -- what follows a line that ends the reading does not matter
-pub past-stop : (s t : List ℕ) (ls : List (List ℕ)) (e : List ℕ) (ms ns : List (List ℕ)) → stops (sawIn false ls) (lineKind e) ≡ true
-    → lines s ≡ ls ++ (e ∷ ms) → lines t ≡ ls ++ (e ∷ ns) → Alike s t
+pub past-stop : (s t : List ℕ) (ls : List (List ℕ)) (e : List ℕ) (ms ns : List (List ℕ))
+    → stops (sawIn false ls) (lineKind e) ≡ true → lines s ≡ ls ++ (e ∷ ms) → lines t ≡ ls ++ (e ∷ ns) → Alike s t
 past-stop s t ls e ms ns h p q =
     same-records s t (ap (reading false) p ∙ stopped false ls e ms h ∙ sym (ap (reading false) q ∙ stopped false ls e ns h))
 
 -- what follows a line ENDMDL does not matter
-pub past-endmdl : (s t : List ℕ) (ls : List (List ℕ)) (e : List ℕ) (ms ns : List (List ℕ)) → lineKind e ≡ Endmdl
-    → lines s ≡ ls ++ (e ∷ ms) → lines t ≡ ls ++ (e ∷ ns) → Alike s t
+pub past-endmdl : (s t : List ℕ) (ls : List (List ℕ)) (e : List ℕ) (ms ns : List (List ℕ))
+    → lineKind e ≡ Endmdl → lines s ≡ ls ++ (e ∷ ms) → lines t ≡ ls ++ (e ∷ ns) → Alike s t
 past-endmdl s t ls e ms ns k = past-stop s t ls e ms ns (ap (stops (sawIn false ls)) k)
 
 saw-stays : (ls : List (List ℕ)) → sawIn true ls ≡ true
@@ -139,43 +147,10 @@ saw-model seen [] m ks k = ap (λ (x : Kind). sawIn (saw seen x) ks) k ∙ saw-s
 saw-model seen (l ∷ ls) m ks k = saw-model (saw seen (lineKind l)) ls m ks k
 
 -- what follows a second line MODEL does not matter
-pub past-model : (s t : List ℕ) (ls : List (List ℕ)) (m : List ℕ) (ks : List (List ℕ)) (e : List ℕ) (ms ns : List (List ℕ)) → lineKind m ≡ Model → lineKind e ≡ Model
+pub past-model : (s t : List ℕ) (ls : List (List ℕ)) (m : List ℕ) (ks : List (List ℕ)) (e : List ℕ) (ms ns : List (List ℕ))
+    → lineKind m ≡ Model → lineKind e ≡ Model
     → lines s ≡ (ls ++ (m ∷ ks)) ++ (e ∷ ms) → lines t ≡ (ls ++ (m ∷ ks)) ++ (e ∷ ns) → Alike s t
 past-model s t ls m ks e ms ns j k = past-stop s t (ls ++ (m ∷ ks)) e ms ns (ap (stops (sawIn false (ls ++ (m ∷ ks)))) k ∙ saw-model false ls m ks j)
-
--- ==== room
-
--- refusal 16 is given only where the room is short, and it carries the size needed
-pub only-for-room : (s : List ℕ) (room n : ℕ) → readAnswer s room ≡ NoJob (NoJobRoom n) → (n ≡ structureSize (structureOf s)) × (room < n)
-unfolding readAnswer readChecks
-only-for-room s room n e = go (faultIn s) (pastLimits (structureOf s)) (ltb room (structureSize (structureOf s))) refl e
-  where
-    go : (f : Fault) (p b : Bool) → ltb room (structureSize (structureOf s)) ≡ b
-        → byFault f (cond p (NoJob PastLimits) (cond b (NoJob (NoJobRoom (structureSize (structureOf s)))) (Written (structureSize (structureOf s))))) ≡ NoJob (NoJobRoom n) → (n ≡ structureSize (structureOf s)) × (room < n)
-    go Clean false true q e = let z : n ≡ structureSize (structureOf s) = cc in (z, omega (arith, z, ltb-true room (structureSize (structureOf s)) q))
-    go Clean false false q e = absurd (let z : _≡_ {A = ℕ} 0 1 = cc in omega arith)
-    go Clean true b q e = absurd (let z : _≡_ {A = ℕ} 0 1 = cc in omega arith)
-    go (LineShort i) p b q e = absurd (let z : _≡_ {A = ℕ} 0 1 = cc in omega arith)
-    go (LineWrong i) p b q e = absurd (let z : _≡_ {A = ℕ} 0 1 = cc in omega arith)
-    go (NoResidue i) p b q e = absurd (let z : _≡_ {A = ℕ} 0 1 = cc in omega arith)
-
-by-room : (s : List ℕ) (room : ℕ) (b : Bool) → faultIn s ≡ Clean → pastLimits (structureOf s) ≡ false → ltb room (structureSize (structureOf s)) ≡ b
-    → readAnswer s room ≡ cond b (NoJob (NoJobRoom (structureSize (structureOf s)))) (Written (structureSize (structureOf s)))
-unfolding readAnswer readChecks
-by-room s room b f p q = rw (f, p, q)
-
--- a file with no fault and within the limits is refused exactly where the room is short, with the size needed; else its job is written
-pub room-refused : (s : List ℕ) (room : ℕ) → faultIn s ≡ Clean → pastLimits (structureOf s) ≡ false
-    → (room < structureSize (structureOf s) → readAnswer s room ≡ NoJob (NoJobRoom (structureSize (structureOf s)))) × (readAnswer s room ≡ NoJob (NoJobRoom (structureSize (structureOf s))) → room < structureSize (structureOf s))
-    × (structureSize (structureOf s) ≤ room → readAnswer s room ≡ Written (structureSize (structureOf s)))
-room-refused s room f p =
-    (λ h. by-room s room true f p (lt-ltb room (structureSize (structureOf s)) h), λ e. only-for-room s room (structureSize (structureOf s)) e .1, λ h. by-room s room false f p (le-ltb room (structureSize (structureOf s)) h))
-
--- a job that was written in some room is written in any room that is no less
-pub more-room : (s : List ℕ) (room room′ n : ℕ) → readAnswer s room ≡ Written n → room ≤ room′ → readAnswer s room′ ≡ Written n
-more-room s room room′ n e h =
-    let a = accepted s room n e in
-    room-refused s room′ (a .clean) (a .limits) .2 (omega (arith, a .fits)) ∙ ap Written (sym (a .size))
 
 -- ==== a worked example
 

@@ -1,7 +1,9 @@
 pub mod Answers
 pub mod Passes
+pub mod Says
 pub mod Small
 pub mod Range
 pub mod Lines
+pub mod Reading
 pub mod Demands
 pub mod Files

@@ -1,5 +1,5 @@
 -- What is true of every atom and segment that a file gives. Assumes nothing.
-use Prim.Native.Nat.{ℕ, _≤_}
+use Prim.Native.Nat.{ℕ, _<_, _≤_}
 use mathlib.Core.Bool.{Bool, true, false, cond}
 use mathlib.Core.Path.{_≡_, refl, subst}
 use mathlib.Core.List.{List, [], _∷_}
@@ -21,8 +21,9 @@ use Rattle.pdb_records.specs.declared.Field.the-variants as field
 use Rattle.pdb_records.specs.declared.Record.{Record}
 use Rattle.pdb_records.specs.declared.Record.the-variants.{Skipped, Short, BadNumber, AnAtom, ASegment}
 use Rattle.pdb_file.specs.Reading.{stops, saw, reading, records, atoms, atomsOf, segments, segmentsOf}
-use Rattle.pdb_reader.proofs.Passes.{NotMinusZero, Proper, Every, Kinded}
-use Rattle.pdb_reader.proofs.Small.{thousandths-small}
+use Rattle.pdb_reader.specs.Says.{NotMinusZero}
+use Rattle.pdb_reader.proofs.Passes.{Proper, Every, Kinded}
+use Rattle.pdb_reader.proofs.Small.{thousandths-small, whole-small}
 use Rattle.pdb_reader.proofs.Range.{within-bits-of, bits-small, never-minus-zero}
 use Rattle.lists.proofs.Any.{take-le}
 
@@ -45,6 +46,16 @@ placed l n long e = go (thousandths l) refl e
           subst NotMinusZero z (never-minus-zero m k),
         )
 
+serial-low : (l : List ℕ) (n : ℕ) → length l ≤ 5 → serialOf (whole l) ≡ field.Right n → n < 4294967296
+serial-low l n long e = go (whole l) refl e
+  where
+    go : (t : Number) → whole l ≡ t → serialOf t ≡ field.Right n → n < 4294967296
+    go Bad q e = absurd (let z : _≡_ {A = ℕ} 0 1 = cc in omega arith)
+    go (Good true k) q e = absurd (let z : _≡_ {A = ℕ} 0 1 = cc in omega arith)
+    go (Good false k) q e =
+        let z : k ≡ n = cc in
+        omega (arith, z, whole-small l false k long q)
+
 role-low : (l : List ℕ) → roleOf l ≤ 2
 unfolding roleOf
 role-low l = go (named CA 13 l) (named O 13 l)
@@ -58,22 +69,22 @@ sound-atom : (l : List ℕ) → Sound (atomOf l)
 unfolding atomOf
 sound-atom l =
     go (ltb (length l) 54) (serialOf (whole (columns 7 11 l))) (residueColumns 22 23 l) (bitsOf (thousandths (columns 31 38 l)))
-    (bitsOf (thousandths (columns 39 46 l))) (bitsOf (thousandths (columns 47 54 l))) refl refl refl
+    (bitsOf (thousandths (columns 39 46 l))) (bitsOf (thousandths (columns 47 54 l))) refl refl refl refl
   where
-    go : (b : Bool) (fs fr fx fy fz : Field) → bitsOf (thousandths (columns 31 38 l)) ≡ fx → bitsOf (thousandths (columns 39 46 l)) ≡ fy → bitsOf (thousandths (columns 47 54 l)) ≡ fz
+    go : (b : Bool) (fs fr fx fy fz : Field) → serialOf (whole (columns 7 11 l)) ≡ fs → bitsOf (thousandths (columns 31 38 l)) ≡ fx → bitsOf (thousandths (columns 39 46 l)) ≡ fy → bitsOf (thousandths (columns 47 54 l)) ≡ fz
         → Sound (cond b Short (with fs (λ s. with fr (λ r. with fx (λ x. with fy (λ y. with fz (λ z.
         AnAtom (record { serial = s; role = roleOf l; chain = column 22 l; name = r; x = x; y = y; z = z }))))))))
-    go true fs fr fx fy fz ex ey ez = tt
-    go false field.Wrong fr fx fy fz ex ey ez = tt
-    go false (field.Right s) field.Wrong fx fy fz ex ey ez = tt
-    go false (field.Right s) (field.Right r) field.Wrong fy fz ex ey ez = tt
-    go false (field.Right s) (field.Right r) (field.Right x) field.Wrong fz ex ey ez = tt
-    go false (field.Right s) (field.Right r) (field.Right x) (field.Right y) field.Wrong ex ey ez = tt
-    go false (field.Right s) (field.Right r) (field.Right x) (field.Right y) (field.Right z) ex ey ez =
+    go true fs fr fx fy fz es ex ey ez = tt
+    go false field.Wrong fr fx fy fz es ex ey ez = tt
+    go false (field.Right s) field.Wrong fx fy fz es ex ey ez = tt
+    go false (field.Right s) (field.Right r) field.Wrong fy fz es ex ey ez = tt
+    go false (field.Right s) (field.Right r) (field.Right x) field.Wrong fz es ex ey ez = tt
+    go false (field.Right s) (field.Right r) (field.Right x) (field.Right y) field.Wrong es ex ey ez = tt
+    go false (field.Right s) (field.Right r) (field.Right x) (field.Right y) (field.Right z) es ex ey ez =
         let px = placed (columns 31 38 l) x (take-le 8 (drop 30 l)) ex in
         let py = placed (columns 39 46 l) y (take-le 8 (drop 38 l)) ey in
         let pz = placed (columns 47 54 l) z (take-le 8 (drop 46 l)) ez in
-        record { role = role-low l; x = px .0; y = py .0; z = pz .0; plus-x = px .1; plus-y = py .1; plus-z = pz .1 }
+        record { serial = serial-low (columns 7 11 l) s (take-le 5 (drop 6 l)) es; role = role-low l; x = px .0; y = py .0; z = pz .0; plus-x = px .1; plus-y = py .1; plus-z = pz .1 }
 
 sound-segment : (k c n c′ n′ : ℕ) (l : List ℕ) → k ≤ 2 → Sound (segmentOf k c n c′ n′ l)
 unfolding segmentOf

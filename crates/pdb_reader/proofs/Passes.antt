@@ -1,14 +1,13 @@
 -- A structure within the limits, whatever file it came from, gives a job that passes checks 1 to 8. Assumes nothing.
-use Prim.Native.Nat.{ℕ, zero, suc, _≤_}
+use Prim.Native.Nat.{ℕ, zero, suc, _<_, _≤_}
 use mathlib.Core.Bool.{true, false, or-true}
 use mathlib.Core.Path.{_≡_, refl, sym, ap, _∙_, subst}
 use mathlib.Core.List.{List, [], _∷_, map}
 use native.Mathlib.Omega.{arith}
 use lib.Dec.{eqb}
-use lib.ListN.{length, drop, length-map}
+use lib.ListN.{drop, length-map}
 use borrow.Author.Tests.{eq-eqb}
 use Rattle.job.specs.Check.{check}
-use Rattle.protein.specs.declared.Head.{Head}
 use Rattle.job.specs.declared.Checked.the-variants.{Fine}
 use Rattle.appearance.specs.Order.{member}
 use Rattle.appearance.proofs.Theorems.{below-count}
@@ -20,13 +19,12 @@ use Rattle.pdb_records.specs.declared.SegmentLine.{SegmentLine}
 use Rattle.pdb_file.specs.Reading.{names, letters}
 use Rattle.pdb_job.specs.Structure.{Structure, toAtom, toSegment, chainsOf, residuesOf, structureJob}
 use Rattle.pdb_reader.specs.Call.{pastLimits}
+use Rattle.pdb_reader.specs.Says.{NotMinusZero, headFor}
 use Rattle.pdb_reader.proofs.Answers.{limited}
 
--- 'zero always +0': the bits are not those of -0
-abbrev pub NotMinusZero : ℕ → Type 0
-NotMinusZero x = x ≡ 0x8000000000000000 → ⊥
-
+-- what a reader has to show of an atom: its serial fits four bytes, and its coordinates are within check 8's limits and none is -0
 pub record Proper (a : AtomLine) : Type 0 where
+  pub serial : a .serial < 4294967296
   pub role : a .role ≤ 2
   pub x : Placed (a .x)
   pub y : Placed (a .y)
@@ -81,7 +79,7 @@ kth-in f (b ∷ l) (suc k) a t e = rw (kth-in f l k a t e) (or-true (eqb (f a) (
 
 -- ---- the job's records
 module _ (ats : List AtomLine) (P : Every Proper ats) where
-  atom-right : (k : ℕ) (b : JobAtom) (t : List JobAtom) → drop k (map (toAtom ats) ats) ≡ b ∷ t → Right (chainsOf ats) (residuesOf ats) b
+  pub atom-right : (k : ℕ) (b : JobAtom) (t : List JobAtom) → drop k (map (toAtom ats) ats) ≡ b ∷ t → Right (chainsOf ats) (residuesOf ats) b
   atom-right k b t e =
       let m = map-back (toAtom ats) ats k b t e in
       let p = every-at Proper ats k (m .item) (m .tail) P (m .is) in
@@ -99,12 +97,8 @@ module _ (ats : List AtomLine) (P : Every Proper ats) where
       let m = map-back (toSegment ats) gs k b t e in
       subst (λ (g : JobSegment). g .kind ≤ 2) (sym (m .image)) (every-at Kinded gs k (m .item) (m .tail) G (m .is))
 
--- the counts that a structure's job has in its head
-abbrev pub headOf : Structure → Head
-headOf x = record { chains = chainsOf (x .atoms); residues = residuesOf (x .atoms); segments = length (x .segments); atoms = length (x .atoms) }
-
 -- THE law for a reader: proper atoms and segments, within the limits, make a job that passes checks 1 to 8
-pub structure-passes : (x : Structure) → Every Proper (x .atoms) → Every Kinded (x .segments) → pastLimits x ≡ false → check (structureJob x) ≡ Fine (headOf x)
+pub structure-passes : (x : Structure) → Every Proper (x .atoms) → Every Kinded (x .segments) → pastLimits x ≡ false → check (structureJob x) ≡ Fine (headFor x)
 unfolding structureJob
 structure-passes x P G e =
     let l = limited x e in

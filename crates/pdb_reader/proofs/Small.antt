@@ -1,4 +1,4 @@
--- A number with three decimal places in at most eight columns is below ten million thousandths. Assumes nothing.
+-- A number with three decimal places in at most eight columns is below ten million thousandths, a whole one in five below 100,000. Assumes nothing.
 use Prim.Native.Nat.{ℕ, zero, suc, _+_, _-_, _*_, _^_, _<_, _≤_}
 use mathlib.Core.Bool.{Bool, true, false, cond}
 use mathlib.Core.Path.{_≡_, refl, sym, ap, _∙_, subst}
@@ -9,7 +9,7 @@ use lib.Dec.{eqb, leb, leb→le}
 use lib.ListN.{length, take, drop, length-drop}
 use lib.Seq.{drop-drop}
 use borrow.Author.Tests.{eqb-true, leb-true}
-use Rattle.pdb_fields.specs.Numbers.{run, isBlank, isDigit, decimal, lead, fraction, thousandths}
+use Rattle.pdb_fields.specs.Numbers.{run, isBlank, isDigit, decimal, lead, blank, fraction, whole, thousandths}
 use Rattle.pdb_fields.specs.declared.Number.the-variants.{Bad, Good}
 use Rattle.lists.proofs.Bools.{and-both}
 
@@ -38,6 +38,12 @@ grows (suc k) (x ∷ l) v bound h b = go (isDigit x) refl h (grows k l)
         (f (10 * v + (x - 48)) (bound * 10) (omega arith) (omega arith))
     go false e q f = absurd (omega arith)
 
+pow-ten : (d m : ℕ) → d ≤ m → 10 ^ d ≤ 10 ^ m
+pow-ten zero zero h = leb→le _ _ tt
+pow-ten (suc d) zero h = absurd (omega arith)
+pow-ten zero (suc m) h = omega (arith, pow-succ' 10 m, pow-ten zero m (omega arith))
+pow-ten (suc d) (suc m) h = omega (arith, pow-succ' 10 d, pow-succ' 10 m, pow-ten d m (omega arith))
+
 -- a number with a point and three digits, in at most eight columns
 module _ (u : List ℕ) (d : ℕ) (ed : d ≡ run isDigit u) (long : length u ≤ 8) (f : fraction (drop d u) ≡ true) where
   three : run isDigit (drop 1 (drop d u)) ≡ 3
@@ -49,17 +55,9 @@ module _ (u : List ℕ) (d : ℕ) (ed : d ≡ run isDigit u) (long : length u �
   below : decimal (decimal 0 (take d u)) (take 3 (drop 1 (drop d u))) < 10000000
   below =
       let a : decimal 0 (take d u) < 1 * 10 ^ d = grows d u 0 1 (omega (arith, ed)) (omega arith) in
-      let b : 10 ^ d ≤ 10 ^ 4 = pow-ten d few in
+      let b : 10 ^ d ≤ 10 ^ 4 = pow-ten d 4 few in
       let c : decimal 0 (take d u) < 10000 = omega arith in
       grows 3 (drop 1 (drop d u)) (decimal 0 (take d u)) 10000 (omega (arith, three)) c
-    where
-      pow-ten : (d : ℕ) → d ≤ 4 → 10 ^ d ≤ 10 ^ 4
-      pow-ten zero h = leb→le _ _ tt
-      pow-ten (suc zero) h = leb→le _ _ tt
-      pow-ten (suc (suc zero)) h = leb→le _ _ tt
-      pow-ten (suc (suc (suc zero))) h = leb→le _ _ tt
-      pow-ten (suc (suc (suc (suc zero)))) h = leb→le _ _ tt
-      pow-ten (suc (suc (suc (suc (suc d))))) h = absurd (omega arith)
 
   same-three : take 3 (drop (d + 1) u) ≡ take 3 (drop 1 (drop d u))
   same-three = ap (take 3) (sym (drop-drop 1 d u))
@@ -79,3 +77,21 @@ thousandths-small l m n long e =
     go u w k false true f q =
         let z : decimal (decimal 0 (take (run isDigit u) u)) (take 3 (drop (run isDigit u + 1) u)) ≡ n = cc in
         subst (λ (x : ℕ). x < 10000000) (ap (decimal (decimal 0 (take (run isDigit u) u))) (sym (same-three u (run isDigit u) refl w f)) ∙ z) (below u (run isDigit u) refl w f)
+
+pub whole-small : (l : List ℕ) (m : Bool) (n : ℕ) → length l ≤ 5 → whole l ≡ Good m n → n < 100000
+unfolding whole
+whole-small l m n long e =
+    let s = drop (run isBlank l) l in
+    let u = drop (lead 45 s) s in
+    let w : length u ≤ 5 = omega (arith, length-drop (run isBlank l) l, length-drop (lead 45 s) s) in
+    go u w (eqb (lead 45 s) 1) (eqb (run isDigit u) 0) (blank (drop (run isDigit u) u)) e
+  where
+    go : (u : List ℕ) → length u ≤ 5 → (k a b : Bool) → cond a Bad (cond b (Good k (decimal 0 (take (run isDigit u) u))) Bad) ≡ Good m n → n < 100000
+    go u w k true b q = absurd (let z : _≡_ {A = ℕ} 0 1 = cc in omega arith)
+    go u w k false false q = absurd (let z : _≡_ {A = ℕ} 0 1 = cc in omega arith)
+    go u w k false true q =
+        let z : decimal 0 (take (run isDigit u) u) ≡ n = cc in
+        let d = run isDigit u in
+        let a : decimal 0 (take d u) < 1 * 10 ^ d = grows d u 0 1 (omega arith) (omega arith) in
+        let b : 10 ^ d ≤ 10 ^ 5 = pow-ten d 5 (omega (arith, run-le isDigit u)) in
+        subst (λ (x : ℕ). x < 100000) z (omega arith)

@@ -1,10 +1,12 @@
 -- What the reader answers, and what it leaves in the lent buffer, on every input. This file, with what it cites, is what a user has to believe.
 use Prim.Native.Nat.{ℕ}
-use mathlib.Core.List.{List}
+use mathlib.Core.List.{List, [], _∷_}
 use mathlib.Core.Bool.{Bool, _||_, cond}
+use mathlib.Core.Path.{_≡_}
 use lib.ListN.{length}
 use lib.Dec.{ltb}
 use Rattle.lists.specs.Put.{put}
+use Rattle.job.specs.Refusals.{refusalNumbers}
 use Rattle.job.specs.declared.Refusal.the-variants.{ShortLine, BadNumber, AbsentResidue, PastLimits, NoJobRoom}
 use Rattle.pdb_file.specs.Faults.{faultIn}
 use Rattle.pdb_file.specs.declared.Fault.{Fault}
@@ -42,3 +44,14 @@ readBy (NoJob r) s out = out
 -- THE final contents of the buffer, which held out
 unfoldable pub bufferAfter : List ℕ → List ℕ → List ℕ
 bufferAfter s out = readBy (readAnswer s (length out)) s out
+
+-- 02 §1 and 01, 'Refusal numbers': the number and the values of each answer: 0 and the job's size, or the refusal's
+abbrev pub readNumbers : Read → List ℕ
+readNumbers (Written n) = 0 ∷ n ∷ 0 ∷ 0 ∷ []
+readNumbers (NoJob r) = refusalNumbers r
+
+-- THE promise of read_pdb: of a file's bytes s, where the lent buffer held out, it answers r and leaves out′
+pub record Reads (s out : List ℕ) (r : Read) (out′ : List ℕ) : Type 0 where
+  -- its number and values are those of the answer
+  pub answer : readNumbers r ≡ readNumbers (readAnswer s (length out))
+  pub buffer : out′ ≡ bufferAfter s out

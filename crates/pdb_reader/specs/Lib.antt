@@ -1,1 +1,3 @@
 pub mod Call
+pub mod Causes
+pub mod Says

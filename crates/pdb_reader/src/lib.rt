@@ -1,4 +1,5 @@
-// The public call `read_pdb`: from the bytes of a PDB file to a version 1 job in a lent buffer, or one refusal.
+// The public call `read_pdb`: from the bytes of a PDB file to a version 1 job in a lent buffer, or one refusal. What it promises,
+// `Reads`, stands in specs/Call.
 use job::Refusal;
 use pdb_file::Fault;
 use pdb_survey::FileCounts;
@@ -7,7 +8,7 @@ ghost use lib.ListN.{length};
 ghost use Rattle.pdb_file.specs.Reading.{atomsOf};
 ghost use Rattle.pdb_survey.specs.Tables.{Noted};
 ghost use Rattle.pdb_job.specs.Structure.{Structure, structureOf};
-ghost use Rattle.pdb_reader.specs.Call.{pastLimits, byFault, readChecks, readAnswer, readBy, bufferAfter};
+ghost use Rattle.pdb_reader.specs.Call.{pastLimits, byFault, readChecks, readBy, Reads};
 ghost use Rattle.pdb_job.specs.Counted.{Counted};
 
 // The size of the job that was written, or a refusal.
@@ -70,7 +71,7 @@ fn by_fault(f: Fault, r: Read) -> Read
 
 // Reads a PDB file: a version 1 job at the front of `out`, or a refusal, which leaves `out` as it was. The tables are the reader's own.
 pub fn read_pdb(s: &[u8], out: &mut [u8]) -> Read
-    ensures { λ r. ⌜ (r ≡ readAnswer (now (s .entry)) (length (now (out .entry)))) × (now (out .exit) ≡ bufferAfter (now (s .entry)) (now (out .entry))) ⌝ }
+    ensures { λ r. ⌜ Reads (now (s .entry)) (now (out .entry)) r (now (out .exit)) ⌝ }
 {
     let mut keys = [0u64; 16384];
     let mut links = [0usize; 32768];

@@ -86,7 +86,7 @@ helixOf l = segmentOf 1 20 22 32 34 l
 abbrev pub sheetOf : List ℕ → Record
 sheetOf l = segmentOf 2 22 23 33 34 l
 
--- by kind; a line that is none of the three is passed over
+-- what a line says, by its kind; a line that is none of the three is passed over
 unfoldable pub ofKind : Kind → List ℕ → Record
 ofKind Atom l = atomOf l
 ofKind Helix l = helixOf l
@@ -94,7 +94,3 @@ ofKind Sheet l = sheetOf l
 ofKind Model l = Skipped
 ofKind Endmdl l = Skipped
 ofKind Other l = Skipped
-
--- what a line says
-abbrev pub recordOf : List ℕ → Record
-recordOf l = ofKind (lineKind l) l
