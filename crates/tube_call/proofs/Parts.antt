@@ -51,7 +51,7 @@ module _ (tubes triangles : List ℕ) (k : ℕ) where
       let i : from + size ≤ length triangles =
       leb-true (from + size) (length triangles) (third-of (ltb k (length tubes / 5)) (leb 2 many) (leb many 16384) (leb (from + size) (length triangles)) t) in
       let m : n ≡ size = e ∙ ap length (whole t) ∙ length-take-le size (drop from triangles) (simp length-drop (omega arith)) in
-      record { size = e; begin = rw (ne-eqb n 0 h); within = omega arith; there = rw m (sym (whole t)) }
+      record { size = e; begin = rw (ne-eqb n 0 h); within = omega arith; there = record { part = rw m (sym (whole t)) } }
 
   pub part-empty : 0 ≡ length (tubePart tubes triangles k) → PartFor tubes triangles k 0 0
-  part-empty e = record { size = e; begin = refl; within = omega arith; there = no-elements _ (sym e) }
+  part-empty e = record { size = e; begin = refl; within = omega arith; there = record { part = no-elements _ (sym e) } }

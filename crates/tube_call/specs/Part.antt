@@ -16,9 +16,13 @@ tubePart tubes triangles k =
     let size = 3 * triangleCount n in
     cond (ltb k (length tubes / 5) && (leb 2 n && (leb n 16384 && leb (from + size) (length triangles)))) (take size (drop from triangles)) []
 
--- where it stands in the buffer: 'from three times the tube's first triangle'; 0 where the part is empty
+-- THE PROMISE of the tube call: of a tube buffer, a triangle buffer and a tube number k it hands out the part p of the caller's own triangle buffer
+pub record Tubed (tubes triangles : List ℕ) (k : ℕ) (p : List ℕ) : Type 0 where
+  pub part : p ≡ tubePart tubes triangles k
+
+-- and for C, where that part stands: n words from place `start` on, 'from three times the tube's first triangle'; 0 where the part is empty
 pub record PartFor (tubes triangles : List ℕ) (k start n : ℕ) : Type 0 where
   pub size : n ≡ length (tubePart tubes triangles k)
   pub begin : start ≡ cond (eqb n 0) 0 (3 * getD tubes (5 * k + 4) 0)
   pub within : start + n ≤ length triangles
-  pub there : take n (drop start triangles) ≡ tubePart tubes triangles k
+  pub there : Tubed tubes triangles k (take n (drop start triangles))

@@ -1,6 +1,5 @@
-// The tube call of 01. Nothing is demanded of whoever calls it.
-ghost use mathlib.Core.Path.{_≡_};
-ghost use Rattle.tube_call.specs.Part.{tubePart, PartFor};
+// The tube call of 01. Nothing is demanded of whoever calls it; what it promises, `Tubed`, stands in specs/Part.
+ghost use Rattle.tube_call.specs.Part.{Tubed, PartFor};
 
 // A part's first place in its buffer, 0 where it is empty, and how many places it has.
 pub struct Located {
@@ -10,7 +9,7 @@ pub struct Located {
 
 // The part of the caller's own triangle buffer for tube k.
 pub fn tube<'a>(records: &[u32], triangles: &'a [u32], k: usize) -> &'a [u32]
-    ensures { λ r. ⌜ now r ≡ tubePart (now (records .entry)) (now (triangles .entry)) k ⌝ }
+    ensures { λ r. ⌜ Tubed (now (records .entry)) (now (triangles .entry)) k (now r) ⌝ }
 {
     let have = records.len() / 5;
     if have <= k {
