@@ -1,36 +1,95 @@
--- No count is cut where an answer is handed out in words of 32 bits: K, V and T of a mesh, of a plan and of refusal 11. Assumes nothing.
-use Prim.Native.Nat.{ℕ, _<_}
-use mathlib.Core.Bool.{false}
+-- The calls for C: any two results that the promises allow are equal, in the words and in every buffer; a job that was read passes checks 1 to 8; and no
+-- count is cut, where K, V and T of a mesh, of a plan and of refusal 11, and a job's size, are handed out in words of 32 bits. Assumes nothing.
+use Prim.Native.Nat.{ℕ, _<_, _≤_}
 use mathlib.Core.List.{List, [], _∷_}
-use mathlib.Core.Path.{_≡_, ap}
+use mathlib.Core.Path.{_≡_, sym, ap, _∙_}
 use native.Mathlib.Nat.{mod-eq-of-lt}
 use native.Mathlib.Omega.{arith}
-use lib.ListN.{length}
-use borrow.Author.Tests.{ltb-false}
+use lib.ListN.{length, take}
+use Rattle.protein.specs.Layout.{headOf}
+use Rattle.job.specs.Refusals.{numberOf}
+use Rattle.job.specs.declared.Refusal.{Refusal}
+use Rattle.job.specs.declared.Refusal.the-variants.{NoRoom, NoJobRoom}
+use Rattle.pdb_reader.specs.declared.Read.the-variants.{Written, NoJob}
+use Rattle.pdb_reader.specs.Call.{readNumbers, Reads}
+use Rattle.pdb_reader.proofs.Demands.{read-determined, buffer-passes, size-below, needed-below}
 use Rattle.tubes.specs.Tubes.{Tube}
 use Rattle.mesh.specs.Mesh.{vertexSum, triangleSum}
+use Rattle.walk.specs.declared.Five.{Five}
 use Rattle.room.specs.declared.Counts.{Counts}
-use Rattle.ribbon.specs.declared.Built.the-variants.{Mesh}
-use Rattle.ribbon.specs.Calls.{jobTubes, buildAnswer}
-use Rattle.room.specs.Room.{Lent, tooMany}
-use Rattle.ribbon.proofs.Written.{AllLong, list-long-of, long-sums}
-use Rattle.ribbon.proofs.Demands.{accepted}
-use Rattle.ribbon_c.specs.Words.{wordOf, wordsOf, builtNumbers}
+use Rattle.room.specs.Room.{Scratch, Buffers}
+use Rattle.promises.specs.declared.Built.the-variants.{Mesh, NoMesh}
+use Rattle.promises.specs.declared.Planned.the-variants.{Plan, NoPlan}
+use Rattle.promises.specs.Calls.{builtNumbers, Builds, Plans}
+use Rattle.promises.specs.Meshes.{tubesIn}
+use Rattle.promises.proofs.Tubes.{AllLong, list-long-of, long-sums}
+use Rattle.promises.proofs.Checks.{passes-by}
+use Rattle.promises.proofs.Demands.{build-determined, plan-determined, past-checks, plan-past-checks, accepted, plan-accepted, room-means}
+use Rattle.ribbon_c.specs.Words.{wordOf, wordsOf, BuildsWords, PlansWords, ReadsWords}
+
+-- ---- one answer, and one content of every buffer
+
+pub build-words-determined : {s : List ℕ} {b b' b'' : Buffers} {a d : List ℕ}
+    → BuildsWords s b a b' → BuildsWords s b d b'' → (a ≡ d) × (b' ≡ b'')
+build-words-determined A D =
+    (A .words ∙ ap wordsOf (A .promise .answer ∙ sym (D .promise .answer)) ∙ sym (D .words), build-determined (A .promise) (D .promise) .1)
+
+pub plan-words-determined : {s : List ℕ} {k : ℕ} {c c' c'' : Scratch} {a d : List ℕ}
+    → PlansWords s k c a c' → PlansWords s k c d c'' → (a ≡ d) × (c' ≡ c'')
+plan-words-determined A D =
+    (A .words ∙ ap wordsOf (A .promise .answer ∙ sym (D .promise .answer)) ∙ sym (D .words), plan-determined (A .promise) (D .promise) .1)
+
+pub read-words-determined : {s out out′ out₂ a d : List ℕ}
+    → ReadsWords s out a out′ → ReadsWords s out d out₂ → (a ≡ d) × (out′ ≡ out₂)
+read-words-determined A D =
+    (A .words ∙ ap wordsOf (A .promise .answer ∙ sym (D .promise .answer)) ∙ sym (D .words), read-determined (A .promise) (D .promise) .1)
+
+-- ---- from the reader to the builder: a job that was read is refused by no check before 9
+
+pub read-then-build : {s out out′ : List ℕ} {n : ℕ} {b b' : Buffers} {q : Refusal}
+    → Reads s out (Written n) out′ → Builds (take n out′) b (NoMesh q) b' → 9 ≤ numberOf q
+read-then-build R B = past-checks (passes-by _ _ (buffer-passes R)) B
+
+pub read-then-plan : {s out out′ : List ℕ} {n k : ℕ} {c c' : Scratch} {q : Refusal}
+    → Reads s out (Written n) out′ → Plans (take n out′) k c (NoPlan q) c' → 9 ≤ numberOf q
+read-then-plan R P = plan-past-checks (passes-by _ _ (buffer-passes R)) P
+
+-- ---- no count is cut
 
 word-same : (n : ℕ) → n < 4294967296 → wordOf n ≡ n
 word-same n h = mod-eq-of-lt h
 
 -- the counts of a list within the vertex limit are words
-pub counts-fit : (us : List Tube) → AllLong us → tooMany us ≡ false
+pub counts-fit : (us : List Tube) → AllLong us → vertexSum us ≤ 1048576
     → wordsOf (length us ∷ vertexSum us ∷ triangleSum us ∷ []) ≡ length us ∷ vertexSum us ∷ triangleSum us ∷ []
-unfolding tooMany
-counts-fit us long e =
-    let v = ltb-false 1048576 (vertexSum us) e in
+counts-fit us long v =
     let s = long-sums us long in
     rw (word-same (length us) (omega arith), word-same (vertexSum us) (omega arith), word-same (triangleSum us) (omega arith))
 
 -- so the words of a mesh's answer are its numbers
-pub mesh-fits : (s : List ℕ) (l : Lent) (c : Counts) → buildAnswer s l ≡ Mesh c → wordsOf (builtNumbers (Mesh c)) ≡ builtNumbers (Mesh c)
-mesh-fits s l c e =
-    let A = accepted s l c e in
-    rw (A .counts) (ap (λ (x : List ℕ). 0 ∷ x) (counts-fit (jobTubes s (A .head)) (list-long-of s (A .head)) (A .limit)))
+pub mesh-fits : {s : List ℕ} {b b' : Buffers} {c : Counts} → Builds s b (Mesh c) b' → wordsOf (builtNumbers (Mesh c)) ≡ builtNumbers (Mesh c)
+mesh-fits {s} B =
+    let A = accepted B in
+    rw (A .2) (ap (λ (x : List ℕ). 0 ∷ x) (counts-fit (tubesIn s) (list-long-of s (headOf s)) (A .0 .limit)))
+
+-- and so are K, V and T of a plan
+pub plan-fits : {s : List ℕ} {k : ℕ} {c c' : Scratch} {n : Counts} {f : Five} → Plans s k c (Plan n f) c'
+    → wordsOf (n .tubes ∷ n .vertices ∷ n .triangles ∷ []) ≡ n .tubes ∷ n .vertices ∷ n .triangles ∷ []
+plan-fits {s} P =
+    let A = plan-accepted P in
+    rw (A .1) (counts-fit (tubesIn s) (list-long-of s (headOf s)) (A .0 .limit))
+
+-- and so are those of refusal 11
+pub room-fits : {s : List ℕ} {b b' : Buffers} {k v t : ℕ} → Builds s b (NoMesh (NoRoom k v t)) b'
+    → wordsOf (builtNumbers (NoMesh (NoRoom k v t))) ≡ builtNumbers (NoMesh (NoRoom k v t))
+room-fits {s} B =
+    let M = room-means B in
+    rw (M .1 .0, M .1 .1, M .1 .2) (ap (λ (x : List ℕ). 11 ∷ x) (counts-fit (tubesIn s) (list-long-of s (headOf s)) (M .0 .limit)))
+
+-- a job's size, and the one that refusal 16 carries
+pub size-fits : {s out out′ : List ℕ} {n : ℕ} → Reads s out (Written n) out′ → wordsOf (readNumbers (Written n)) ≡ readNumbers (Written n)
+size-fits {n = n} R = rw (word-same n (size-below R))
+
+pub needed-fits : {s out out′ : List ℕ} {n : ℕ} → Reads s out (NoJob (NoJobRoom n)) out′
+    → wordsOf (readNumbers (NoJob (NoJobRoom n))) ≡ readNumbers (NoJob (NoJobRoom n))
+needed-fits {n = n} R = rw (word-same n (needed-below R))

@@ -1,29 +1,13 @@
--- Answers as numbers, in 01's order, and as words.
+-- The calls for C: an answer is words in a lent array, those of an answer that the call's own promise allows.
 use Prim.Native.Nat.{ℕ, _%_}
-use mathlib.Core.List.{List, [], _∷_, _++_}
-use Rattle.job.specs.Refusals.{refusalNumbers}
+use mathlib.Core.List.{List, [], _∷_}
+use mathlib.Core.Path.{_≡_}
 use Rattle.pdb_reader.specs.declared.Read.{Read}
-use Rattle.pdb_reader.specs.declared.Read.the-variants.{Written, NoJob}
-use Rattle.ribbon.specs.declared.Built.{Built}
-use Rattle.ribbon.specs.declared.Built.the-variants.{Mesh, NoMesh}
-use Rattle.ribbon.specs.declared.Planned.{Planned}
-use Rattle.ribbon.specs.declared.Planned.the-variants.{Plan, NoPlan}
-
--- a mesh: 0, K, V and T
-abbrev pub builtNumbers : Built → List ℕ
-builtNumbers (Mesh c) = 0 ∷ c .tubes ∷ c .vertices ∷ c .triangles ∷ []
-builtNumbers (NoMesh r) = refusalNumbers r
-
--- a plan: 0, K, V, T and tube k's five words
-abbrev pub plannedNumbers : Planned → List ℕ
-plannedNumbers (Plan c f) =
-    0 ∷ c .tubes ∷ c .vertices ∷ c .triangles ∷ f .kind ∷ f .first ∷ f .length ∷ f .vertex ∷ f .triangle ∷ []
-plannedNumbers (NoPlan r) = refusalNumbers r ++ (0 ∷ 0 ∷ 0 ∷ 0 ∷ 0 ∷ [])
-
--- a job that was read: 0 and its size
-abbrev pub readNumbers : Read → List ℕ
-readNumbers (Written n) = 0 ∷ n ∷ 0 ∷ 0 ∷ []
-readNumbers (NoJob r) = refusalNumbers r
+use Rattle.pdb_reader.specs.Call.{readNumbers, Reads}
+use Rattle.room.specs.Room.{Scratch, Buffers}
+use Rattle.promises.specs.declared.Built.{Built}
+use Rattle.promises.specs.declared.Planned.{Planned}
+use Rattle.promises.specs.Calls.{builtNumbers, plannedNumbers, Builds, Plans}
 
 -- a number as a word of 32 bits
 abbrev pub wordOf : ℕ → ℕ
@@ -32,3 +16,21 @@ wordOf n = n % 4294967296
 abbrev pub wordsOf : List ℕ → List ℕ
 wordsOf [] = []
 wordsOf (n ∷ l) = wordOf n ∷ wordsOf l
+
+-- ribbon_build, of a job's bytes s with the buffers b lent, leaves the words a in the answer's place and the buffers as b'
+pub record BuildsWords (s : List ℕ) (b : Buffers) (a : List ℕ) (b' : Buffers) : Type 0 where
+  pub answer : Built
+  pub promise : Builds s b answer b'
+  pub words : a ≡ wordsOf (builtNumbers answer)
+
+-- ribbon_plan, of a job's bytes s and a tube number k with the scratch c lent
+pub record PlansWords (s : List ℕ) (k : ℕ) (c : Scratch) (a : List ℕ) (c' : Scratch) : Type 0 where
+  pub answer : Planned
+  pub promise : Plans s k c answer c'
+  pub words : a ≡ wordsOf (plannedNumbers answer)
+
+-- ribbon_read_pdb, of a file's bytes s, where the job's buffer held out
+pub record ReadsWords (s out a out′ : List ℕ) : Type 0 where
+  pub answer : Read
+  pub promise : Reads s out answer out′
+  pub words : a ≡ wordsOf (readNumbers answer)

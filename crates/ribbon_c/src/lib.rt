@@ -1,17 +1,16 @@
-// The calls for C and Rust: a slice is a pointer and a length, and an answer is words in a lent array.
+// The calls for C and Rust: a slice is a pointer and a length, and an answer is words in a lent array. What they promise stands in specs/Words.
 use job::Refusal;
 use pdb_reader::Read;
-use ribbon::Built;
-use ribbon::Planned;
+use promises::Built;
+use promises::Planned;
 ghost use mathlib.Core.Path.{_≡_};
-ghost use lib.ListN.{length};
 ghost use Rattle.job.specs.Refusals.{refusalNumbers};
-ghost use Rattle.mesh.specs.Outs.{outs};
-ghost use Rattle.ribbon.specs.Calls.{buildAnswer, planAnswer, outsAfter, wordsAfter, floatsAfter};
-ghost use Rattle.room.specs.Room.{lent};
-ghost use Rattle.pdb_reader.specs.Call.{readAnswer, bufferAfter};
+ghost use Rattle.mesh.specs.Outs.{held, holds};
+ghost use Rattle.room.specs.Room.{buffers, scratch};
+ghost use Rattle.promises.specs.Calls.{builtNumbers, plannedNumbers};
+ghost use Rattle.pdb_reader.specs.Call.{readNumbers};
 ghost use Rattle.tube_call.specs.Part.{PartFor};
-ghost use Rattle.ribbon_c.specs.Words.{wordOf, wordsOf, builtNumbers, plannedNumbers, readNumbers};
+ghost use Rattle.ribbon_c.specs.Words.{wordOf, wordsOf, BuildsWords, PlansWords, ReadsWords};
 
 fn word(n: usize) -> u32
     ensures { λ r. ⌜ r ≡ wordOf n ⌝ }
@@ -80,13 +79,9 @@ pub extern "C" fn ribbon_build(
     floats: &mut [f32],
     answer: &mut [u32; 4],
 )
-    ensures { λ _. ⌜ (now (answer .exit) ≡ wordsOf
-        (builtNumbers (buildAnswer (now (job .entry))
-        (lent (outs (now (positions .entry)) (now (normals .entry)) (now (tags .entry)) (now (triangles .entry)) (now (tubes .entry)) (now (boxes .entry)))
-        (now (words .entry)) (now (floats .entry))))))
-        × ((outs (now (positions .exit)) (now (normals .exit)) (now (tags .exit)) (now (triangles .exit)) (now (tubes .exit)) (now (boxes .exit))) ≡ outsAfter (now (job .entry)) (lent (outs (now (positions .entry)) (now (normals .entry)) (now (tags .entry)) (now (triangles .entry)) (now (tubes .entry)) (now (boxes .entry))) (now (words .entry)) (now (floats .entry))) (outs (now (positions .entry)) (now (normals .entry)) (now (tags .entry)) (now (triangles .entry)) (now (tubes .entry)) (now (boxes .entry))))
-        × (now (words .exit) ≡ wordsAfter (now (job .entry)) (length (now (words .entry))) (length (now (floats .entry))) (now (words .entry)))
-        × (now (floats .exit) ≡ floatsAfter (now (job .entry)) (length (now (words .entry))) (length (now (floats .entry))) (now (floats .entry))) ⌝ }
+    ensures { λ _. ⌜ BuildsWords (now (job .entry))
+        (buffers (held positions normals tags triangles tubes boxes) (now (words .entry)) (now (floats .entry))) (now (answer .exit))
+        (buffers (holds positions normals tags triangles tubes boxes) (now (words .exit)) (now (floats .exit))) ⌝ }
 {
     let a = ribbon::build(
         job,
@@ -111,10 +106,8 @@ pub extern "C" fn ribbon_plan(
     floats: &mut [f32],
     answer: &mut [u32; 9],
 )
-    ensures { λ _. ⌜ (now (answer .exit) ≡ wordsOf
-        (plannedNumbers (planAnswer (now (job .entry)) k (length (now (words .entry))) (length (now (floats .entry))))))
-        × (now (words .exit) ≡ wordsAfter (now (job .entry)) (length (now (words .entry))) (length (now (floats .entry))) (now (words .entry)))
-        × (now (floats .exit) ≡ floatsAfter (now (job .entry)) (length (now (words .entry))) (length (now (floats .entry))) (now (floats .entry))) ⌝ }
+    ensures { λ _. ⌜ PlansWords (now (job .entry)) k (scratch (now (words .entry)) (now (floats .entry))) (now (answer .exit))
+        (scratch (now (words .exit)) (now (floats .exit))) ⌝ }
 {
     let a = ribbon::plan(job, k, words, floats);
     *answer = planned_words(a);
@@ -138,8 +131,7 @@ pub extern "C" fn ribbon_tube(
 // The number (0: a job) and the job's size, or a refusal's number and what it carries, go to answer.
 #[no_mangle]
 pub extern "C" fn ribbon_read_pdb(file: &[u8], job: &mut [u8], answer: &mut [u32; 4])
-    ensures { λ _. ⌜ (now (answer .exit) ≡ wordsOf (readNumbers (readAnswer (now (file .entry)) (length (now (job .entry))))))
-        × (now (job .exit) ≡ bufferAfter (now (file .entry)) (now (job .entry))) ⌝ }
+    ensures { λ _. ⌜ ReadsWords (now (file .entry)) (now (job .entry)) (now (answer .exit)) (now (job .exit)) ⌝ }
 {
     let a = pdb_reader::read_pdb(file, job);
     *answer = read_words(a);

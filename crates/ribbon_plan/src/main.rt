@@ -1,7 +1,7 @@
 // The program `ribbon-plan`: reads a job, from the file that is named or from standard input, and prints its counts and its tubes, or the refusal.
 use files::say;
 use libc::STDOUT_FILENO;
-use ribbon::Planned;
+use promises::Planned;
 
 // Whether a line was written whole.
 fn print(line: &[u8]) -> bool {

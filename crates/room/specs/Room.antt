@@ -1,7 +1,7 @@
 -- Checks 9 to 11, and the scratch after a call that passed check 9: 01, 'Refusal numbers' and 'Lent buffers'.
 use Prim.Native.Nat.{ℕ, _*_}
 use mathlib.Core.List.{List, _++_}
-use mathlib.Core.Bool.{Bool, _||_}
+use mathlib.Core.Bool.{Bool, cond, _||_}
 use lib.ListN.{length, drop, replicate}
 use lib.Dec.{ltb}
 use lib.Ieee.{Float, binary32, ofBits}
@@ -9,6 +9,7 @@ use Rattle.protein.specs.declared.Head.{Head}
 use Rattle.tubes.specs.Tubes.{Tube}
 use Rattle.mesh.specs.Mesh.{vertexSum}
 use Rattle.mesh.specs.Outs.{Outs}
+use Rattle.walk.specs.declared.Five.{Five}
 use Rattle.walk.specs.declared.Totals.{Totals}
 use Rattle.room.specs.declared.Counts.{Counts}
 
@@ -23,17 +24,41 @@ pub record Lent : Type 0 where
   pub words : ℕ
   pub floats : ℕ
 
-abbrev pub lent : Outs → List ℕ → List Float → Lent
-lent o w f = record {
-  positions = length (o .positions);
-  normals = length (o .normals);
-  tags = length (o .tags);
-  triangles = length (o .triangles);
-  tubes = length (o .tubes);
-  boxes = length (o .boxes);
-  words = length w;
-  floats = length f;
+-- the lent scratch, and all that is lent to build: what the buffers hold
+pub record Scratch : Type 0 where
+  pub words : List ℕ
+  pub floats : List Float
+
+pub record Buffers : Type 0 where
+  pub outs : Outs
+  pub scratch : Scratch
+
+abbrev pub scratch : List ℕ → List Float → Scratch
+scratch w f = record { words = w; floats = f }
+
+abbrev pub buffers : Outs → List ℕ → List Float → Buffers
+buffers o w f = record { outs = o; scratch = scratch w f }
+
+-- how long they are
+abbrev pub lent : Buffers → Lent
+lent b = record {
+  positions = length (b .outs .positions);
+  normals = length (b .outs .normals);
+  tags = length (b .outs .tags);
+  triangles = length (b .outs .triangles);
+  tubes = length (b .outs .tubes);
+  boxes = length (b .outs .boxes);
+  words = length (b .scratch .words);
+  floats = length (b .scratch .floats);
 }
+
+-- 'all five 0'
+abbrev pub noWords : Five
+noWords = record { kind = 0; first = 0; length = 0; vertex = 0; triangle = 0 }
+
+-- the totals before the first tube, where tube k's words are asked for
+abbrev pub start : ℕ → Totals
+start k = record { tubes = 0; vertices = 0; triangles = 0; wanted = k; words = noWords }
 
 -- K, V and T of a walk's totals
 abbrev pub countsIn : Totals → Counts
@@ -47,7 +72,7 @@ shortScratch h words floats = ltb words (8 * h .residues) || ltb floats (32 * h 
 unfoldable pub tooMany : List Tube → Bool
 tooMany us = ltb 1048576 (vertexSum us)
 
--- 11: 'an output buffer too short', of 'positions 3V f32, normals 3V f32, tags V u32, triangles 3T u32, tubes 5K u32, boxes 6K f32'
+-- 11: 'an output buffer too short', of 'positions 3V f32, normals 3V f32, tags V u32, triangles 3T u32, tubes 5K u32 .., boxes 6K f32'
 unfoldable pub tight : Counts → Lent → Bool
 tight c l =
     ltb (l .positions) (3 * c .vertices)
@@ -67,3 +92,10 @@ clearedWords h w = zeroed 0 (8 * h .residues) w
 
 abbrev pub clearedFloats : Head → List Float → List Float
 clearedFloats h f = zeroed (ofBits binary32 0) (32 * h .residues) f
+
+abbrev pub cleared : Head → Scratch → Scratch
+cleared h c = scratch (clearedWords h (c .words)) (clearedFloats h (c .floats))
+
+-- the scratch after the call of a job with the counts h, past checks 1 to 8: 'after a refusal at .. check 9 .. unchanged'
+abbrev pub scratchPast : Head → Scratch → Scratch
+scratchPast h c = cond (shortScratch h (length (c .words)) (length (c .floats))) c (cleared h c)

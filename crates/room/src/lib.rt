@@ -1,18 +1,39 @@
-// Checks 9 and 11, and the scratch after a call that passed check 9.
+// Checks 9 and 11, the totals that a call begins with, and the scratch after a call that passed check 9.
 use protein::Head;
+use walk::Five;
 use walk::Totals;
 ghost use mathlib.Core.Path.{_≡_};
 ghost use Prim.Native.Nat.{_*_, _≤_};
 ghost use lib.ListN.{length};
 ghost use lib.Ieee.{binary32, ofBits};
 ghost use Rattle.walk.specs.Walk.{Small, allFrames};
-ghost use Rattle.room.specs.Room.{countsIn, shortScratch, tight, zeroed, clearedWords, clearedFloats};
+ghost use Rattle.room.specs.Room.{start, countsIn, shortScratch, tight, zeroed, clearedWords, clearedFloats};
 
 // K, V and T.
 pub struct Counts {
     pub tubes: usize,
     pub vertices: usize,
     pub triangles: usize,
+}
+
+// Before the first tube, where tube k's words are asked for.
+pub fn before_all(k: usize) -> Totals
+    ensures { λ r. ⌜ r ≡ start k ⌝ }
+{
+    let words = Five {
+        kind: 0,
+        first: 0,
+        length: 0,
+        vertex: 0,
+        triangle: 0,
+    };
+    Totals {
+        tubes: 0,
+        vertices: 0,
+        triangles: 0,
+        wanted: k,
+        words,
+    }
 }
 
 // K, V and T of a walk's totals.

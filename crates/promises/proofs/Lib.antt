@@ -1,0 +1,11 @@
+pub mod Tubes
+pub mod Meshes
+pub mod Numbered
+pub mod Told
+pub mod Checks
+pub mod Parts
+pub mod Answers
+pub mod Plans
+pub mod Together
+pub mod Demands
+pub mod Kept
