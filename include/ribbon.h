@@ -5,7 +5,8 @@
  * WHAT IS DEMANDED. A buffer is a pointer and its length in places (bytes, words or floats). The pointer is good for that length, and no two buffers of one
  * call overlap, the answer among them; an empty buffer may be null. Nothing else is demanded: every file, every job and every length has an answer. A refused
  * call changes no output buffer, and places past what a call writes stay as they were. What each call answers, and what it leaves in every buffer, is set out
- * in crates/ribbon/specs/Calls.antt and, for the reader, crates/pdb_reader/specs/Call.antt, and proved.
+ * in crates/promises/specs/Calls.antt, for ribbon_tube in crates/tube_call/specs/Part.antt, for the reader in crates/pdb_reader/specs/Call.antt, as words in
+ * crates/ribbon_c/specs/Words.antt, and proved.
  *
  * THE ORDER OF A HOST'S CALLS (examples/host.c is such a host):
  *   1. ribbon_read_pdb with no room, null and 0: of a right file RIBBON_NO_JOB_ROOM carries the job's size; any other refusal says what is wrong with the file.
