@@ -17,7 +17,7 @@ use vectors::get_vec;
 ghost use mathlib.Core.Path.{_≡_};
 ghost use Prim.Native.Nat.{_+_, _*_, _-_, _^_, _<_, _≤_};
 ghost use lib.ListN.{length};
-ghost use Rattle.shape.specs.Ring.{halfSizes, spokesOf};
+ghost use Rattle.shape.specs.Ring.{halfSizes, profileOf, spokesOf};
 ghost use Rattle.curve.specs.Samples.{beforeOf, afterOf, spanOf, spanAt, paramAt, frameOf, frameAt, ringFrom, tagAt};
 
 fn before(p: &[f32], i: usize, p1: Vec3, p2: Vec3) -> Vec3
@@ -114,6 +114,18 @@ pub fn ring(f: Frame, kind: Kind, n: usize, s: usize, spokes: [Spoke; 8]) -> Rin
         return cross_section(c, g, b, profile(kind, n, i, param_at(n, s)));
     }
     ring_over(c, g, b, spokes)
+}
+
+// The spokes of sample s: those of its kind, but in a sheet's arrow its own.
+pub fn spokes_at(kind: Kind, n: usize, s: usize, spokes: [Spoke; 8]) -> [Spoke; 8]
+    requires { ⌜ (2 ≤ n) × (n ≤ 16384) × (s ≤ 8 * (n - 1)) × (spokes ≡ spokesOf (halfSizes kind)) ⌝ }
+    ensures { λ r. ⌜ r ≡ spokesOf (profileOf kind n (spanAt n s) (paramAt n s)) ⌝ }
+{
+    let i = span_at(n, s);
+    if in_arrow(kind, n, i) {
+        return shape::section::spokes(profile(kind, n, i, param_at(n, s)));
+    }
+    spokes
 }
 
 pub fn tag_at(first: u32, n: usize, s: usize) -> u32

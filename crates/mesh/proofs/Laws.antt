@@ -1,5 +1,5 @@
 -- Laws of a tube's scratch: what is loaded, and what the shape reads of it. Assumes nothing.
-use Prim.Native.Nat.{ℕ, zero, suc, _+_, _*_, _<_}
+use Prim.Native.Nat.{ℕ, zero, suc, _+_, _-_, _*_, _≤_, _<_}
 use mathlib.Core.Bool.{Bool, true, false, cond}
 use mathlib.Core.List.{List, [], _∷_, _++_}
 use mathlib.Core.Path.{_≡_, refl, _∙_, ap, fun-ext}
@@ -12,15 +12,20 @@ use borrow.Author.Tests.{eqb-false, ltb-true, ltb-false}
 use Rattle.lists.specs.Put.{put, upto}
 use Rattle.lists.proofs.Puts.{next, length-upto, put-all, upto-at}
 use Rattle.vectors.specs.declared.Vec3.{Vec3}
-use Rattle.vectors.specs.Vec.{vecAt}
+use Rattle.vectors.specs.Vec.{vecAt, floats}
 use Rattle.shape.specs.declared.Kind.{Kind}
 use Rattle.shape.specs.declared.Kind.the-variants.{Sheet}
 use Rattle.shape.specs.declared.Oxygen.the-variants.{At, Missing}
 use Rattle.curve.specs.Residues.{oxygenAt}
 use Rattle.skin.specs.Tube.{positionsOf, normalsOf, tagsOf}
+use Rattle.skin.proofs.Laws.{length-positions-of}
+use Rattle.boxes.specs.declared.Bounds.{Bounds}
 use Rattle.boxes.specs.Box.{boxOf}
-use Rattle.skin.specs.Post.{Wrote}
-use Rattle.edges.specs.Tube.{tube}
+use Rattle.boxes.specs.Bounds.{boundsOf}
+use Rattle.boxes.proofs.Laws.{bounds-box}
+use Rattle.rings.specs.Post.{Began}
+use Rattle.edges.specs.Tube.{vertexCount, tube}
+use Rattle.edges.proofs.Theorems.{vertex-count}
 use Rattle.mesh.specs.Mesh.{kindOf, spotOf, spotAt, spots, airAt, positionsBy, normalsBy, boxBy}
 use Rattle.mesh.specs.Outs.{Outs, outs, writtenBy}
 
@@ -78,26 +83,29 @@ course-is place alphas oxygens c₀ c c′ n w e f =
     next c₀ c 0 (3 * length alphas) (spots place alphas) (spots place oxygens) f e (omega arith)
     ∙ put-all c₀ (spots place alphas ++ spots place oxygens) refl (omega (arith, length-append (spots place alphas) (spots place oxygens)))
 
--- the whole of a tube, from what each writer left: `c` is the loaded course
-pub written-is : (place : ℕ → Vec3) (kind first : ℕ) (alphas oxygens : List ℕ) (k v t : ℕ) (o : Outs) (c : List Float) (x : Kind) {p n b : List Float} {g y r : List ℕ}
+-- the whole of a tube, from what each writer left: `c` is the loaded course, and d the box that the vertices were written with
+pub written-is : (place : ℕ → Vec3) (kind first : ℕ) (alphas oxygens : List ℕ) (k v t : ℕ) (o : Outs) (c : List Float) (x : Kind) (d : Bounds) {p n b : List Float} {g y r : List ℕ}
+    → 2 ≤ length alphas
     → c ≡ spots place alphas ++ spots place oxygens
     → x ≡ kindOf kind
-    → b ≡ put (o .boxes) (6 * k) (boxOf (take (3 * length alphas) c) (length alphas))
-    → Wrote (o .positions) (o .normals) (o .tags) v
+    → b ≡ put (o .boxes) (6 * k) (floats (d .low) ++ floats (d .high))
+    → Began (o .positions) (o .normals) (o .tags) v
     (positionsOf x (take (3 * length alphas) c) (oxygenAt oxygens (drop (3 * length alphas) c)) (length alphas))
     (normalsOf x (take (3 * length alphas) c) (oxygenAt oxygens (drop (3 * length alphas) c)) (length alphas))
-    (tagsOf first (length alphas)) p n g
+    (tagsOf first (length alphas)) d p n g
     → y ≡ put (o .triangles) (3 * t) (tube 8 8 v (length alphas))
     → r ≡ put (o .tubes) (5 * k) (kind ∷ first ∷ length alphas ∷ v ∷ t ∷ [])
     → outs p n g y r b ≡ writtenBy place kind first alphas oxygens k v t o
 unfolding writtenBy positionsBy normalsBy boxBy
-written-is place kind first alphas oxygens k v t o c x {p} {n} {b} {g} {y} {r} e q hb w hy hr =
+written-is place kind first alphas oxygens k v t o c x d {p} {n} {b} {g} {y} {r} two e q hb w hy hr =
     let l = length-spots place alphas in
     let a : take (3 * length alphas) c ≡ spots place alphas = ap (take (3 * length alphas)) e ∙ take-at (spots place alphas) (spots place oxygens) _ l in
-    let d : drop (3 * length alphas) c ≡ spots place oxygens = ap (drop (3 * length alphas)) e ∙ drop-at (spots place alphas) (spots place oxygens) _ l in
-    let i : oxygenAt oxygens (drop (3 * length alphas) c) ≡ airAt place oxygens = ap (oxygenAt oxygens) d ∙ airs place oxygens in
+    let z : drop (3 * length alphas) c ≡ spots place oxygens = ap (drop (3 * length alphas)) e ∙ drop-at (spots place alphas) (spots place oxygens) _ l in
+    let i : oxygenAt oxygens (drop (3 * length alphas) c) ≡ airAt place oxygens = ap (oxygenAt oxygens) z ∙ airs place oxygens in
     let hp : p ≡ put (o .positions) (3 * v) (positionsOf (kindOf kind) (spots place alphas) (airAt place oxygens) (length alphas)) = rw (a, i, q) at (w .pos) in
     let hn : n ≡ put (o .normals) (3 * v) (normalsOf (kindOf kind) (spots place alphas) (airAt place oxygens) (length alphas)) = rw (a, i, q) at (w .norm) in
     let hg : g ≡ put (o .tags) v (tagsOf first (length alphas)) = w .tag in
-    let hx : b ≡ put (o .boxes) (6 * k) (boxOf (spots place alphas) (length alphas)) = rw a at hb in
+    let hd : d ≡ boundsOf (positionsOf (kindOf kind) (spots place alphas) (airAt place oxygens) (length alphas)) = rw (a, i, q) at (w .box) in
+    let hx : floats (d .low) ++ floats (d .high) ≡ boxOf (positionsOf (kindOf kind) (spots place alphas) (airAt place oxygens) (length alphas)) =
+    bounds-box (vertexCount (length alphas) - 1) _ (length-positions-of (kindOf kind) (spots place alphas) (airAt place oxygens) (length alphas) two ∙ omega (arith, vertex-count (length alphas) two)) hd in
     cc

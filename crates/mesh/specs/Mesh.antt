@@ -64,9 +64,9 @@ positionsBy place kind alphas oxygens = positionsOf (kindOf kind) (spots place a
 unfoldable pub normalsBy : (ℕ → Vec3) → ℕ → List ℕ → List ℕ → List Float
 normalsBy place kind alphas oxygens = normalsOf (kindOf kind) (spots place alphas) (airAt place oxygens) (length alphas)
 
--- 'A box is the least and greatest C-alpha coordinate on each axis over the tube's frames'
-unfoldable pub boxBy : (ℕ → Vec3) → List ℕ → List Float
-boxBy place alphas = boxOf (spots place alphas) (length alphas)
+-- 02 §2: 'A box now takes the vertices of its tube, caps included, where document 01 takes C-alphas; all else about it stays'
+unfoldable pub boxBy : (ℕ → Vec3) → ℕ → List ℕ → List ℕ → List Float
+boxBy place kind alphas oxygens = boxOf (positionsBy place kind alphas oxygens)
 
 unfoldable pub tubePositions : Protein → Tube → List Float
 tubePositions P u = positionsBy (P .place) (u .kind) (alphasOf P u) (oxygensOf P u)
@@ -75,7 +75,7 @@ unfoldable pub tubeNormals : Protein → Tube → List Float
 tubeNormals P u = normalsBy (P .place) (u .kind) (alphasOf P u) (oxygensOf P u)
 
 unfoldable pub tubeBox : Protein → Tube → List Float
-tubeBox P u = boxBy (P .place) (alphasOf P u)
+tubeBox P u = boxBy (P .place) (u .kind) (alphasOf P u) (oxygensOf P u)
 
 -- 'Tag: first residue + i ..'
 unfoldable pub tubeTags : Tube → List ℕ

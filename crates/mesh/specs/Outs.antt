@@ -61,5 +61,5 @@ writtenBy place kind first alphas oxygens k v t o = record {
   tags = put (o .tags) v (tagsOf first (length alphas));
   triangles = put (o .triangles) (3 * t) (tube 8 8 v (length alphas));
   tubes = put (o .tubes) (5 * k) (kind ∷ first ∷ length alphas ∷ v ∷ t ∷ []);
-  boxes = put (o .boxes) (6 * k) (boxBy place alphas);
+  boxes = put (o .boxes) (6 * k) (boxBy place kind alphas oxygens);
 }

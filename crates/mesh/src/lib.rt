@@ -108,13 +108,11 @@ pub fn write_tube(
         (held positions normals tags triangles tubes boxes) ⌝ }
 {
     let n = alphas.len();
-    let three = 3 * n;
     let v32 = v as u32;
     let t32 = t as u32;
     let n32 = n as u32;
     load_course(b, h, alphas, oxygens, course);
-    boxes::put_box(&course[..three], n, boxes, 6 * k);
-    skin::tube::tube_vertices(
+    let bounds = skin::tube::tube_vertices(
         oxygens,
         course,
         positions,
@@ -125,6 +123,7 @@ pub fn write_tube(
         v,
         first,
     );
+    boxes::put_bounds(boxes, 6 * k, bounds);
     stitch::tube_triangles(triangles, 3 * t, v32, n32);
     put_five(tubes, 5 * k, kind as u32, first, n32, v32, t32);
 }

@@ -145,7 +145,7 @@ pub fn spokes(p: Profile) -> [Spoke; 8]
     out
 }
 
-fn point_on(center: Vec3, guide: Vec3, binormal: Vec3, s: Spoke) -> Vec3
+pub fn point_on(center: Vec3, guide: Vec3, binormal: Vec3, s: Spoke) -> Vec3
     ensures { λ r. ⌜ r ≡ pointOn center guide binormal s ⌝ }
 {
     center
@@ -153,7 +153,7 @@ fn point_on(center: Vec3, guide: Vec3, binormal: Vec3, s: Spoke) -> Vec3
         .add(guide.scale(s.height))
 }
 
-fn normal_on(guide: Vec3, binormal: Vec3, s: Spoke) -> Vec3
+pub fn normal_on(guide: Vec3, binormal: Vec3, s: Spoke) -> Vec3
     ensures { λ r. ⌜ r ≡ normalOn guide binormal s ⌝ }
 {
     binormal.scale(s.nx).add(guide.scale(s.ny)).normalised()

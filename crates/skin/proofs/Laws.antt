@@ -1,17 +1,21 @@
--- Turns and sequences of the writers of vertices, over plain lists.
+-- A tube's vertices, over plain lists: rings of a span, lengths, and the parts in which the buffers are written. Assumes nothing.
 use mathlib.Core.Path.{_≡_, refl, sym, ap, _∙_}
 use mathlib.Core.List.{List, [], _∷_, _++_, append-assoc}
 use Prim.Native.Nat.{ℕ, suc, _+_, _*_, _-_, _/_, _%_, _≤_, _<_}
 use native.Mathlib.Omega.{arith}
-use native.Mathlib.Nat.{mul-assoc}
 use lib.Ieee.{Float}
 use lib.ListN.{length, take, drop, length-append}
 use borrow.Author.Tests.{lt-ltb}
 use lib.Seq.{take-at, drop-at, length-take-le}
 use Rattle.vectors.specs.declared.Vec3.{Vec3}
 use Rattle.vectors.specs.Vec.{floats, vecAt}
+use Rattle.boxes.specs.declared.Bounds.{Bounds}
+use Rattle.boxes.specs.Bounds.{grownBy, boundsOf}
+use Rattle.boxes.proofs.Laws.{grown-next}
+use Rattle.rings.specs.Post.{Wrote, Began}
+use Rattle.rings.proofs.Laws.{length-eight, first-vertex}
 use Rattle.lists.specs.Put.{put, upto}
-use Rattle.lists.proofs.Puts.{next, turn, kept, length-upto, upto-more}
+use Rattle.lists.proofs.Puts.{next, length-upto}
 use Rattle.shape.specs.declared.Kind.{Kind}
 use Rattle.shape.specs.declared.Spoke.{Spoke}
 use Rattle.shape.specs.declared.Oxygen.{Oxygen}
@@ -23,49 +27,9 @@ use Rattle.curve.specs.Residues.{oxygenAt, guidesOf, pointsOf}
 use Rattle.curve.proofs.Laws.{length-guides-of, length-points-of}
 use Rattle.edges.specs.Tube.{vertexCount}
 use Rattle.edges.proofs.Theorems.{vertex-count}
-use Rattle.skin.specs.Post.{VertexRoom, Wrote, Course, Residues}
-use Rattle.skin.specs.Tube.{ordered, eight, ringPositions, ringNormals, ringTags, skinPositions, skinNormals, positionsOf, normalsOf, tagsOf}
+use Rattle.skin.specs.Post.{Course, Residues}
+use Rattle.skin.specs.Tube.{ordered, ringPositions, ringNormals, ringTags, skinPositions, skinNormals, positionsOf, normalsOf, tagsOf}
 use Rattle.lists.proofs.Any.{rest}
-
--- the three buffers at once: one write after another
-pub wrote-next : {p₀ n₀ : List Float} {t₀ : List ℕ} {p n p′ n′ : List Float} {t t′ : List ℕ} (v w : ℕ) (x x′ y y′ : List Float) (z z′ : List ℕ)
-    → Wrote p n t w x′ y′ z′ p′ n′ t′ → Wrote p₀ n₀ t₀ v x y z p n t
-    → w ≡ v + length z → length x ≡ 3 * length z → length y ≡ 3 * length z
-    → Wrote p₀ n₀ t₀ v (x ++ x′) (y ++ y′) (z ++ z′) p′ n′ t′
-wrote-next {p₀} {n₀} {t₀} {p} {n} v w x x′ y y′ z z′ b a h hx hy = record {
-  pos = next p₀ p (3 * v) (3 * w) x x′ (b .pos) (a .pos) (omega arith);
-  norm = next n₀ n (3 * v) (3 * w) y y′ (b .norm) (a .norm) (omega arith);
-  tag = next t₀ _ v w z z′ (b .tag) (a .tag) h;
-}
-
--- a turn of a loop that writes m vertices a turn to the three
-pub wrote-turn : {p₀ n₀ : List Float} {t₀ : List ℕ} {p n p′ n′ : List Float} {t t′ : List ℕ} (f g : ℕ → List Float) (h : ℕ → List ℕ) (m : ℕ)
-    → ((k : ℕ) → length (f k) ≡ m * 3) → ((k : ℕ) → length (g k) ≡ m * 3) → ((k : ℕ) → length (h k) ≡ m)
-    → (v w k : ℕ) → Wrote p n t w (f k) (g k) (h k) p′ n′ t′ → Wrote p₀ n₀ t₀ v (upto f k) (upto g k) (upto h k) p n t
-    → w ≡ v + k * m
-    → Wrote p₀ n₀ t₀ v (upto f (k + 1)) (upto g (k + 1)) (upto h (k + 1)) p′ n′ t′
-wrote-turn {p₀} {n₀} {t₀} f g h m hf hg hh v w k b a e =
-    let e3 : 3 * w ≡ 3 * v + k * (m * 3) = omega (arith, mul-assoc k m 3) in
-    record {
-      pos = turn f (m * 3) hf p₀ (3 * v) (3 * w) k (b .pos) (a .pos) e3;
-      norm = turn g (m * 3) hg n₀ (3 * v) (3 * w) k (b .norm) (a .norm) e3;
-      tag = turn h m hh t₀ v w k (b .tag) (a .tag) e;
-    }
-
--- a turn of a loop that writes c times m vertices to the three
-pub wrote-more : {p₀ n₀ : List Float} {t₀ : List ℕ} {p n p′ n′ : List Float} {t t′ : List ℕ} (f g f′ g′ : ℕ → List Float) (h h′ : ℕ → List ℕ) (m : ℕ)
-    → ((k : ℕ) → length (f k) ≡ m * 3) → ((k : ℕ) → length (g k) ≡ m * 3) → ((k : ℕ) → length (h k) ≡ m)
-    → (v w k c : ℕ) → ((j : ℕ) → f′ j ≡ f (k + j)) → ((j : ℕ) → g′ j ≡ g (k + j)) → ((j : ℕ) → h′ j ≡ h (k + j))
-    → Wrote p n t w (upto f′ c) (upto g′ c) (upto h′ c) p′ n′ t′ → Wrote p₀ n₀ t₀ v (upto f k) (upto g k) (upto h k) p n t
-    → w ≡ v + k * m
-    → Wrote p₀ n₀ t₀ v (upto f (k + c)) (upto g (k + c)) (upto h (k + c)) p′ n′ t′
-wrote-more {p₀} {n₀} {t₀} {p} {n} {p′} {n′} {t} {t′} f g f′ g′ h h′ m hf hg hh v w k c ef eg eh b a e =
-    let lf = length-upto f (m * 3) k (λ j _. hf j) in
-    let lg = length-upto g (m * 3) k (λ j _. hg j) in
-    let lh = length-upto h m k (λ j _. hh j) in
-    let s = mul-assoc k m 3 in
-    rw (upto-more f f′ k c ef, upto-more g g′ k c eg, upto-more h h′ k c eh) at
-    (wrote-next v w (upto f k) (upto f′ c) (upto g k) (upto g′ c) (upto h k) (upto h′ c) b a (omega arith) (omega arith) (omega arith))
 
 -- the frame of a sample that lies in the same span as sample `from`, from what that span gives
 span-there : (n from j : ℕ) → from % 8 + j < 8 → from / 8 + 1 < n → spanAt n (from + j) ≡ from / 8
@@ -80,26 +44,6 @@ pub on-span : (p g : List Float) (n from j : ℕ) {q : List Vec3} {a b m : Vec3}
     → f ≡ frameAt p g n (from + j)
 unfolding frameAt
 on-span p g n from j l h eq ea eb et em ef = ef ∙ rw (em, eq, ea, eb, et, span-there n from j l h)
-
--- the three keep their lengths
-pub room : {p₀ n₀ : List Float} {t₀ : List ℕ} {p n : List Float} {t : List ℕ} (v : ℕ) (x y : List Float) (z : List ℕ) (m : ℕ)
-    → Wrote p₀ n₀ t₀ v x y z p n t → VertexRoom p₀ n₀ t₀ m → (k : ℕ) → k ≤ m → VertexRoom p n t k
-room v x y z m w r k h = record {
-  pos = omega (arith, kept _ _ _ (w .pos), r .pos);
-  norm = omega (arith, kept _ _ _ (w .norm), r .norm);
-  tag = omega (arith, kept _ _ _ (w .tag), r .tag);
-}
-
-pub same-room : {p₀ n₀ : List Float} {t₀ : List ℕ} {p n : List Float} {t : List ℕ} (v : ℕ) (x y : List Float) (z : List ℕ) {m : ℕ}
-    → Wrote p₀ n₀ t₀ v x y z p n t → VertexRoom p₀ n₀ t₀ m → VertexRoom p n t m
-same-room v x y z {m} w r = room v x y z m w r m (omega arith)
-
-pub less : {p n : List Float} {t : List ℕ} (m k : ℕ) → VertexRoom p n t m → k ≤ m → VertexRoom p n t k
-less m k r h = record { pos = omega (arith, r .pos); norm = omega (arith, r .norm); tag = omega (arith, r .tag) }
-
-pub length-eight : (ps : List Vec3) → length (eight ps) ≡ 24
-unfolding eight
-length-eight ps = length-upto _ 3 8 (λ _ _. refl)
 
 pub length-positions : (kind : Kind) (p g : List Float) (n s : ℕ) → length (ringPositions kind p g n s) ≡ 24
 unfolding ringPositions
@@ -135,38 +79,62 @@ pub length-tags-of : (first n : ℕ) → 2 ≤ n → length (tagsOf first n) ≡
 unfolding tagsOf
 length-tags-of first n two = length-ordered 8 1 n _ _ _ (length-tags first n) refl refl ∙ omega (arith, vertex-count n two)
 
--- one buffer, written in three parts: the first ring with the start's centre, the rings between, and the last ring with the end's centre. A
--- ring fills c places and a centre d
+-- a buffer's list in the three parts in which it is written: the first ring with the start's centre, the rings between, and the last ring with the end's centre
+in-parts : {A : Type 0} (n : ℕ) (ring : ℕ → List A) (start end : List A) → 2 ≤ n
+    → ((ring 0 ++ start) ++ upto (λ (s : ℕ). ring (s + 1)) (8 * (n - 1) - 1)) ++ (ring (8 * (n - 1)) ++ end) ≡ ordered n ring start end
+unfolding ordered upto
+in-parts n ring start end h =
+    let m : ℕ = 8 * (n - 1) - 1 in
+    let u : ℕ → List _ = upto (λ (s : ℕ). ring (s + 1)) in
+    let last : 8 * (n - 1) ≡ suc m = omega arith in
+    let more : u (8 * (n - 1)) ≡ u m ++ ring (8 * (n - 1)) = ap u last ∙ ap (λ (s : ℕ). u m ++ ring s) (omega arith) in
+    rw more (simp append-assoc)
+
+-- one buffer, written in these parts. A ring fills c places and a centre d
 parts : {A : Type 0} (c d n : ℕ) (ring : ℕ → List A) (start end l : List A) (i j k : ℕ) {b₁ b₂ b₃ : List A} → 2 ≤ n
     → ((s : ℕ) → length (ring s) ≡ c) → length start ≡ d
     → b₁ ≡ put l i (ring 0 ++ start) → b₂ ≡ put b₁ j (upto (λ (s : ℕ). ring (s + 1)) (8 * (n - 1) - 1)) → b₃ ≡ put b₂ k (ring (8 * (n - 1)) ++ end)
     → j ≡ i + (c + d) → k ≡ j + (8 * (n - 1) - 1) * c
     → b₃ ≡ put l i (ordered n ring start end)
-unfolding ordered upto
 parts c d n ring start end l i j k {b₁} {b₂} h hr hs e₁ e₂ e₃ hj hk =
     let m : ℕ = 8 * (n - 1) - 1 in
-    let u : ℕ → List _ = upto (λ (s : ℕ). ring (s + 1)) in
+    let u : List _ = upto (λ (s : ℕ). ring (s + 1)) m in
     let la : length (ring 0 ++ start) ≡ c + d = length-append (ring 0) start ∙ ap (λ (x : ℕ). x + length start) (hr 0) ∙ ap (λ (x : ℕ). c + x) hs in
-    let lu : length (u m) ≡ m * c = length-upto (λ (s : ℕ). ring (s + 1)) c m (λ s _. hr (s + 1)) in
-    let s₁ = next l b₁ i j (ring 0 ++ start) (u m) e₂ e₁ (hj ∙ ap (λ (x : ℕ). i + x) (sym la)) in
-    let hk′ : k ≡ i + length ((ring 0 ++ start) ++ u m) =
-    omega (arith, length-append (ring 0 ++ start) (u m), la, lu, hj, hk) in
-    let s₂ = next l b₂ i k ((ring 0 ++ start) ++ u m) (ring (8 * (n - 1)) ++ end) e₃ s₁ hk′ in
-    let last : 8 * (n - 1) ≡ suc m = omega arith in
-    let more : u (8 * (n - 1)) ≡ u m ++ ring (8 * (n - 1)) = ap u last ∙ ap (λ (s : ℕ). u m ++ ring s) (omega arith) in
-    s₂ ∙ ap (put l i) (rw more (simp append-assoc))
+    let lu : length u ≡ m * c = length-upto (λ (s : ℕ). ring (s + 1)) c m (λ s _. hr (s + 1)) in
+    let s₁ = next l b₁ i j (ring 0 ++ start) u e₂ e₁ (hj ∙ ap (λ (x : ℕ). i + x) (sym la)) in
+    let hk′ : k ≡ i + length ((ring 0 ++ start) ++ u) =
+    omega (arith, length-append (ring 0 ++ start) u, la, lu, hj, hk) in
+    next l b₂ i k ((ring 0 ++ start) ++ u) (ring (8 * (n - 1)) ++ end) e₃ s₁ hk′ ∙ ap (put l i) (in-parts n ring start end h)
 
--- the three buffers, each in its three parts
-pub whole : (kind : Kind) (p g : List Float) (n first : ℕ) (sp ep sn en : Vec3) (st et : ℕ) {p₀ n₀ p₁ n₁ p₂ n₂ p₃ n₃ : List Float} {t₀ t₁ t₂ t₃ : List ℕ}
+-- the box, taken further in these parts, is that of the whole list from its first vertex on
+boxed : (n : ℕ) (ring : ℕ → List Float) (start end : List Float) {b₁ b₂ b₃ : Bounds} → 2 ≤ n → ((s : ℕ) → length (ring s) ≡ 24) → length start ≡ 3
+    → b₁ ≡ boundsOf (ring 0 ++ start)
+    → b₂ ≡ grownBy b₁ (upto (λ (s : ℕ). ring (s + 1)) (8 * (n - 1) - 1)) → b₃ ≡ grownBy b₂ (ring (8 * (n - 1)) ++ end)
+    → b₃ ≡ boundsOf (ordered n ring start end)
+boxed n ring start end h hr hs e₁ e₂ e₃ =
+    let m : ℕ = 8 * (n - 1) - 1 in
+    let u : List Float = upto (λ (s : ℕ). ring (s + 1)) m in
+    let la : length (ring 0 ++ start) ≡ 27 = omega (arith, length-append (ring 0) start, hr 0, hs) in
+    let lu : length u ≡ m * 24 = length-upto (λ (s : ℕ). ring (s + 1)) 24 m (λ s _. hr (s + 1)) in
+    let l : length ((ring 0 ++ start) ++ u) ≡ 3 * (9 + m * 8) = omega (arith, length-append (ring 0 ++ start) u, la, lu) in
+    let f : vecAt (ordered n ring start end) 0 ≡ vecAt (ring 0 ++ start) 0 =
+    ap (λ (z : List Float). vecAt z 0) (sym (in-parts n ring start end h)) ∙ first-vertex ((ring 0 ++ start) ++ u) _ (omega arith) ∙ first-vertex (ring 0 ++ start) u (omega arith) in
+    let s₁ = grown-next 9 _ (ring 0 ++ start) u e₂ e₁ (la ∙ omega arith) in
+    let s₂ = grown-next (9 + m * 8) _ ((ring 0 ++ start) ++ u) (ring (8 * (n - 1)) ++ end) e₃ s₁ l in
+    rw (f, ← in-parts n ring start end h) s₂
+
+-- the three buffers and the box, each in its three parts
+pub whole : (kind : Kind) (p g : List Float) (n first : ℕ) (sp ep sn en : Vec3) (st et : ℕ) {b₁ b₂ b₃ : Bounds} {p₀ n₀ p₁ n₁ p₂ n₂ p₃ n₃ : List Float} {t₀ t₁ t₂ t₃ : List ℕ}
     (v w e : ℕ) → 2 ≤ n → w ≡ v + 9 → e ≡ w + 8 * (8 * (n - 1) - 1)
-    → Wrote p₀ n₀ t₀ v (ringPositions kind p g n 0 ++ floats sp) (ringNormals kind p g n 0 ++ floats sn) (ringTags first n 0 ++ (st ∷ [])) p₁ n₁ t₁
-    → Wrote p₁ n₁ t₁ w (upto (λ (s : ℕ). ringPositions kind p g n (s + 1)) (8 * (n - 1) - 1)) (upto (λ (s : ℕ). ringNormals kind p g n (s + 1)) (8 * (n - 1) - 1)) (upto (λ (s : ℕ). ringTags first n (s + 1)) (8 * (n - 1) - 1)) p₂ n₂ t₂
-    → Wrote p₂ n₂ t₂ e (ringPositions kind p g n (8 * (n - 1)) ++ floats ep) (ringNormals kind p g n (8 * (n - 1)) ++ floats en) (ringTags first n (8 * (n - 1)) ++ (et ∷ [])) p₃ n₃ t₃
-    → Wrote p₀ n₀ t₀ v (ordered n (ringPositions kind p g n) (floats sp) (floats ep)) (ordered n (ringNormals kind p g n) (floats sn) (floats en)) (ordered n (ringTags first n) (st ∷ []) (et ∷ [])) p₃ n₃ t₃
-whole kind p g n first sp ep sn en st et {p₀} {n₀} {p₁} {n₁} {p₂} {n₂} {p₃} {n₃} {t₀} v w e h hw he a b c = record {
+    → Began p₀ n₀ t₀ v (ringPositions kind p g n 0 ++ floats sp) (ringNormals kind p g n 0 ++ floats sn) (ringTags first n 0 ++ (st ∷ [])) b₁ p₁ n₁ t₁
+    → Wrote b₁ p₁ n₁ t₁ w (upto (λ (s : ℕ). ringPositions kind p g n (s + 1)) (8 * (n - 1) - 1)) (upto (λ (s : ℕ). ringNormals kind p g n (s + 1)) (8 * (n - 1) - 1)) (upto (λ (s : ℕ). ringTags first n (s + 1)) (8 * (n - 1) - 1)) b₂ p₂ n₂ t₂
+    → Wrote b₂ p₂ n₂ t₂ e (ringPositions kind p g n (8 * (n - 1)) ++ floats ep) (ringNormals kind p g n (8 * (n - 1)) ++ floats en) (ringTags first n (8 * (n - 1)) ++ (et ∷ [])) b₃ p₃ n₃ t₃
+    → Began p₀ n₀ t₀ v (ordered n (ringPositions kind p g n) (floats sp) (floats ep)) (ordered n (ringNormals kind p g n) (floats sn) (floats en)) (ordered n (ringTags first n) (st ∷ []) (et ∷ [])) b₃ p₃ n₃ t₃
+whole kind p g n first sp ep sn en st et {p₀ = p₀} {n₀ = n₀} {t₀ = t₀} v w e h hw he a b c = record {
   pos = parts 24 3 n (ringPositions kind p g n) (floats sp) (floats ep) p₀ (3 * v) (3 * w) (3 * e) h (length-positions kind p g n) refl (a .pos) (b .pos) (c .pos) (omega arith) (omega arith);
   norm = parts 24 3 n (ringNormals kind p g n) (floats sn) (floats en) n₀ (3 * v) (3 * w) (3 * e) h (length-normals kind p g n) refl (a .norm) (b .norm) (c .norm) (omega arith) (omega arith);
   tag = parts 8 1 n (ringTags first n) (st ∷ []) (et ∷ []) t₀ v w e h (length-tags first n) refl (a .tag) (b .tag) (c .tag) (omega arith) (omega arith);
+  box = boxed n (ringPositions kind p g n) (floats sp) (floats ep) h (length-positions kind p g n) refl (a .box) (b .box) (c .box);
 }
 
 -- a course s that has been laid over l, of 6n floats: its two parts are what a tube's skin goes over
@@ -194,8 +162,8 @@ module _ (kind : Kind) (flags : List ℕ) (l : List Float) (n first : ℕ) (r : 
     same = h;
   }
 
-  pub covered : {p₀ n₀ p′ n′ : List Float} {t₀ t′ z : List ℕ} {v : ℕ}
-      → Wrote p₀ n₀ t₀ v (skinPositions kind (take (3 * n) s) (take (length s - 3 * n) (drop (3 * n) s)) n) (skinNormals kind (take (3 * n) s) (take (length s - 3 * n) (drop (3 * n) s)) n) z p′ n′ t′
-      → Wrote p₀ n₀ t₀ v (positionsOf kind (take (3 * n) l) (oxygenAt flags (drop (3 * n) l)) n) (normalsOf kind (take (3 * n) l) (oxygenAt flags (drop (3 * n) l)) n) z p′ n′ t′
+  pub covered : {b : Bounds} {p₀ n₀ p′ n′ : List Float} {t₀ t′ z : List ℕ} {v : ℕ}
+      → Began p₀ n₀ t₀ v (skinPositions kind (take (3 * n) s) (take (length s - 3 * n) (drop (3 * n) s)) n) (skinNormals kind (take (3 * n) s) (take (length s - 3 * n) (drop (3 * n) s)) n) z b p′ n′ t′
+      → Began p₀ n₀ t₀ v (positionsOf kind (take (3 * n) l) (oxygenAt flags (drop (3 * n) l)) n) (normalsOf kind (take (3 * n) l) (oxygenAt flags (drop (3 * n) l)) n) z b p′ n′ t′
   unfolding positionsOf normalsOf
   covered w = rw (front, back) at w

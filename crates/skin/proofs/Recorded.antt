@@ -8,7 +8,7 @@ use lib.Dec.{T}
 use lib.ListN.{getD}
 use lib.Ieee.{Float, binary32, toBits, ofBits, ofFields, odd, span, climb, size, units, round, sum, add, sub, neg, mul, div, ofInt, lt, eq, le, isNan}
 use Rattle.floats.specs.Floats.{root, nearestRoot, floorRoot, rootDigits, greater, absolute}
-use Rattle.vectors.specs.Vec.{vadd, vsub, vscale, vcross, vdot, vlength, normalised, vecAt, lit, floats}
+use Rattle.vectors.specs.Vec.{vadd, vsub, vscale, vcross, vdot, vlength, normalised, vecAt, lit, floats, eight}
 use Rattle.lists.specs.Put.{put, upto}
 use Rattle.shape.specs.declared.Kind.{Kind}
 use Rattle.shape.specs.declared.Kind.the-variants.{Helix, Sheet}
@@ -20,7 +20,7 @@ use Rattle.shape.specs.Ring.{cosBits, sinBits, cosAt, sinAt, halfSizes, inArrow
 use Rattle.curve.specs.Smooth.{guidePass, positionPass, repeated, smoothGuides, smoothPositions}
 use Rattle.curve.specs.Residues.{tangentAt, rawAt, signedAt, signed, sumOf, same, settled, guidesOf, pointsOf}
 use Rattle.curve.specs.Samples.{spanOf, spanAt, paramAt, frameOf, frameAt, ringAt}
-use Rattle.skin.specs.Tube.{ordered, eight, ringPositions, ringNormals, startNormal, endNormal, skinPositions, skinNormals}
+use Rattle.skin.specs.Tube.{ordered, ringPositions, ringNormals, startNormal, endNormal, skinPositions, skinNormals}
 use Rattle.lists.specs.Same.{sameList}
 
 -- the C-alphas and the oxygens

@@ -1,25 +1,12 @@
--- What the writers of vertices ask for and promise, over the three buffers at once.
+-- What a tube's vertices are written from.
 use mathlib.Core.Path.{_≡_}
 use mathlib.Core.List.{List}
 use Prim.Native.Nat.{ℕ, _+_, _*_, _≤_, _<_, _^_}
 use lib.ListN.{length}
 use lib.Ieee.{Float}
-use Rattle.lists.specs.Put.{put}
 use Rattle.shape.specs.declared.Kind.{Kind}
 use Rattle.shape.specs.declared.Spoke.{Spoke}
 use Rattle.shape.specs.Ring.{halfSizes, spokesOf}
-
--- there is room for v vertices
-pub record VertexRoom (p n : List Float) (t : List ℕ) (v : ℕ) : Type 0 where
-  pub pos : 3 * v ≤ length p
-  pub norm : 3 * v ≤ length n
-  pub tag : v ≤ length t
-
--- from vertex v on, xs is written to the positions, ys to the normals and zs to the tags, and nothing else changed
-pub record Wrote (p₀ n₀ : List Float) (t₀ : List ℕ) (v : ℕ) (xs ys : List Float) (zs : List ℕ) (p n : List Float) (t : List ℕ) : Type 0 where
-  pub pos : p ≡ put p₀ (3 * v) xs
-  pub norm : n ≡ put n₀ (3 * v) ys
-  pub tag : t ≡ put t₀ v zs
 
 -- n spline points and n guides of a tube whose first residue is first, and the spokes of its kind
 pub record Course (p g : List Float) (n first : ℕ) (kind : Kind) (spokes : List Spoke) : Type 0 where

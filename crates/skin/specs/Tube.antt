@@ -1,10 +1,10 @@
 -- The vertices of one tube, as the flat lists that its buffers hold: a function of its kind, its C-alphas and its oxygens alone.
 use mathlib.Core.List.{List, [], _∷_, _++_}
 use Prim.Native.Nat.{ℕ, _+_, _*_, _-_}
-use lib.ListN.{getD, replicate}
+use lib.ListN.{replicate}
 use lib.Ieee.{Float, neg}
 use Rattle.vectors.specs.declared.Vec3.{Vec3}
-use Rattle.vectors.specs.Vec.{vsub, vscale, normalised, one, vpast, floats, vecAt}
+use Rattle.vectors.specs.Vec.{vsub, vscale, normalised, one, floats, vecAt, eight}
 use Rattle.lists.specs.Put.{upto}
 use Rattle.shape.specs.declared.Kind.{Kind}
 use Rattle.shape.specs.declared.Oxygen.{Oxygen}
@@ -14,10 +14,6 @@ use Rattle.curve.specs.Samples.{frameAt, ringAt, tagAt}
 -- 01: 'Vertices: ring, start centre, later rings, end centre', and 'There are 8(n-1)+1 samples', a ring each: ring 0 and 8(n-1) later ones
 unfoldable pub ordered : {A : Type 0} → ℕ → (ℕ → List A) → List A → List A → List A
 ordered n ring start end = ((ring 0 ++ start) ++ upto (λ (s : ℕ). ring (s + 1)) (8 * (n - 1))) ++ end
-
--- eight vectors, flat
-unfoldable pub eight : List Vec3 → List Float
-eight ps = upto (λ (k : ℕ). floats (getD ps k vpast)) 8
 
 -- what sample s writes, over n spline points p and n guides g
 unfoldable pub ringPositions : Kind → List Float → List Float → ℕ → ℕ → List Float

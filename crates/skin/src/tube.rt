@@ -1,13 +1,16 @@
 // The vertices of one tube: a capped ring, the rings between, and a capped ring.
-use crate::rings::put_capped;
-use crate::rings::put_ring;
+use boxes::Bounds;
+use boxes::begun;
 use curve::residues::lay_course;
 use curve::samples::frame;
 use curve::samples::frame_at;
 use curve::samples::param_at;
 use curve::samples::ring;
 use curve::samples::span;
+use curve::samples::spokes_at;
 use curve::samples::tag_at;
+use rings::put_capped;
+use rings::put_sides;
 use shape::Kind;
 use shape::Spoke;
 use shape::guides::between;
@@ -24,10 +27,11 @@ ghost use Rattle.lists.specs.Put.{upto};
 ghost use Rattle.curve.specs.Residues.{oxygenAt, guidesOf, pointsOf};
 ghost use Rattle.curve.specs.Samples.{frameAt, tagAt};
 ghost use Rattle.edges.specs.Tube.{vertexCount};
+ghost use Rattle.rings.specs.Post.{VertexRoom, Wrote, Began};
 ghost use Rattle.skin.specs.Tube.{ringPositions, ringNormals, ringTags, startNormal, endNormal, skinPositions, skinNormals, positionsOf, normalsOf, tagsOf};
-ghost use Rattle.skin.specs.Post.{VertexRoom, Wrote, Course, Residues};
+ghost use Rattle.skin.specs.Post.{Course, Residues};
 
-// The first ring and the start's centre.
+// The first ring and the start's centre. The box begins with the first vertex.
 fn start_cap(
     points: &[f32],
     guides: &[f32],
@@ -39,20 +43,22 @@ fn start_cap(
     v: usize,
     first: u32,
     spokes: [Spoke; 8],
-)
+) -> Bounds
     requires { ⌜ Course (now points) (now guides) n first kind spokes × VertexRoom (now positions) (now normals) (now tags) (v + 9) ⌝ }
-    ensures { λ _. ⌜ Wrote (now (positions .entry)) (now (normals .entry)) (now (tags .entry)) v
+    ensures { λ c. ⌜ Began (now (positions .entry)) (now (normals .entry)) (now (tags .entry)) v
         (ringPositions kind (now (points .entry)) (now (guides .entry)) n 0 ++ floats (frameAt (now (points .entry)) (now (guides .entry)) n 0 .position))
         (ringNormals kind (now (points .entry)) (now (guides .entry)) n 0 ++ floats (startNormal (now (points .entry)) (now (guides .entry)) n))
         (ringTags first n 0 ++ (tagAt first n 0 ∷ []))
-        (now (positions .exit)) (now (normals .exit)) (now (tags .exit)) ⌝ }
+        c (now (positions .exit)) (now (normals .exit)) (now (tags .exit)) ⌝ }
 {
     let f = frame_at(points, guides, n, 0);
     let r = ring(f, kind, n, 0, spokes);
     let tag = tag_at(first, n, 0);
     let p = f.position;
     let back = f.tangent.scale(-1.0);
-    put_capped(positions, normals, tags, v, r, tag, p, back, tag);
+    let ps = r.positions;
+    let b = begun(ps[0]);
+    put_capped(positions, normals, tags, v, r, tag, p, back, tag, b)
 }
 
 // The rings of `count` samples, all of one span, from sample `from` on. A span's control points and guides are read once, and what they give
@@ -70,14 +76,15 @@ fn span_rings(
     spokes: [Spoke; 8],
     from: usize,
     count: usize,
-)
+    corners: Bounds,
+) -> Bounds
     requires { ⌜ Course (now points) (now guides) n first kind spokes × VertexRoom (now positions) (now normals) (now tags) (v + 8 * count) ⌝ }
     requires { ⌜ (from % 8 + count ≤ 8) × (from / 8 + 1 < n) ⌝ }
-    ensures { λ _. ⌜ Wrote (now (positions .entry)) (now (normals .entry)) (now (tags .entry)) v
+    ensures { λ c. ⌜ Wrote corners (now (positions .entry)) (now (normals .entry)) (now (tags .entry)) v
         (upto (λ (j : ℕ). ringPositions kind (now (points .entry)) (now (guides .entry)) n (from + j)) count)
         (upto (λ (j : ℕ). ringNormals kind (now (points .entry)) (now (guides .entry)) n (from + j)) count)
         (upto (λ (j : ℕ). ringTags first n (from + j)) count)
-        (now (positions .exit)) (now (normals .exit)) (now (tags .exit)) ⌝ }
+        c (now (positions .exit)) (now (normals .exit)) (now (tags .exit)) ⌝ }
 {
     let i = from / 8;
     let q = span(points, n, i);
@@ -85,15 +92,28 @@ fn span_rings(
     let b = get_vec(guides, i + 1);
     let mut j = 0usize;
     let mut at = v;
+    let mut bounds = corners;
     while j < count {
         let s = from + j;
         let t = param_at(n, s);
         let f = frame(q, t, between(a, b, t));
-        let r = ring(f, kind, n, s, spokes);
-        put_ring(positions, normals, tags, at, r, tag_at(first, n, s));
+        let own = spokes_at(kind, n, s, spokes);
+        bounds = put_sides(
+            positions,
+            normals,
+            tags,
+            at,
+            f.position,
+            f.guide,
+            f.binormal,
+            own,
+            tag_at(first, n, s),
+            bounds,
+        );
         j += 1;
         at += 8;
     }
+    bounds
 }
 
 // The rings between the first and the last, span by span.
@@ -108,21 +128,23 @@ fn later_rings(
     v: usize,
     first: u32,
     spokes: [Spoke; 8],
-)
+    corners: Bounds,
+) -> Bounds
     requires { ⌜ Course (now points) (now guides) n first kind spokes × VertexRoom (now positions) (now normals) (now tags) (v + 8 * (8 * (n - 1) - 1)) ⌝ }
-    ensures { λ _. ⌜ Wrote (now (positions .entry)) (now (normals .entry)) (now (tags .entry)) v
+    ensures { λ c. ⌜ Wrote corners (now (positions .entry)) (now (normals .entry)) (now (tags .entry)) v
         (upto (λ (s : ℕ). ringPositions kind (now (points .entry)) (now (guides .entry)) n (s + 1)) (8 * (n - 1) - 1))
         (upto (λ (s : ℕ). ringNormals kind (now (points .entry)) (now (guides .entry)) n (s + 1)) (8 * (n - 1) - 1))
         (upto (λ (s : ℕ). ringTags first n (s + 1)) (8 * (n - 1) - 1))
-        (now (positions .exit)) (now (normals .exit)) (now (tags .exit)) ⌝ }
+        c (now (positions .exit)) (now (normals .exit)) (now (tags .exit)) ⌝ }
 {
     let total = 8 * (n - 1) - 1;
     let mut s = 0usize;
     let mut at = v;
+    let mut bounds = corners;
     while s < total {
         let from = s + 1;
         let count = 8 - from % 8;
-        span_rings(
+        bounds = span_rings(
             points,
             guides,
             positions,
@@ -135,10 +157,12 @@ fn later_rings(
             spokes,
             from,
             count,
+            bounds,
         );
         s += count;
         at += 8 * count;
     }
+    bounds
 }
 
 fn end_normal(points: &[f32], n: usize) -> Vec3
@@ -162,14 +186,15 @@ fn end_cap(
     v: usize,
     first: u32,
     spokes: [Spoke; 8],
-)
+    corners: Bounds,
+) -> Bounds
     requires { ⌜ Course (now points) (now guides) n first kind spokes × VertexRoom (now positions) (now normals) (now tags) (v + 9) ⌝ }
-    ensures { λ _. ⌜ Wrote (now (positions .entry)) (now (normals .entry)) (now (tags .entry)) v
+    ensures { λ c. ⌜ Wrote corners (now (positions .entry)) (now (normals .entry)) (now (tags .entry)) v
         (ringPositions kind (now (points .entry)) (now (guides .entry)) n (8 * (n - 1))
         ++ floats (frameAt (now (points .entry)) (now (guides .entry)) n (8 * (n - 1)) .position))
         (ringNormals kind (now (points .entry)) (now (guides .entry)) n (8 * (n - 1)) ++ floats (endNormal (now (points .entry)) n))
         (ringTags first n (8 * (n - 1)) ++ ((first + (n - 1)) ∷ []))
-        (now (positions .exit)) (now (normals .exit)) (now (tags .exit)) ⌝ }
+        c (now (positions .exit)) (now (normals .exit)) (now (tags .exit)) ⌝ }
 {
     let s = 8 * (n - 1);
     let f = frame_at(points, guides, n, s);
@@ -178,7 +203,7 @@ fn end_cap(
     let p = f.position;
     let chord = end_normal(points, n);
     let last = first + (n - 1) as u32;
-    put_capped(positions, normals, tags, v, r, tag, p, chord, last);
+    put_capped(positions, normals, tags, v, r, tag, p, chord, last, corners)
 }
 
 // All vertices over spline points and guides. What a ring takes from its half-sizes alone is computed once.
@@ -193,17 +218,17 @@ fn skin(
     v: usize,
     first: u32,
     spokes: [Spoke; 8],
-)
+) -> Bounds
     requires { ⌜ Course (now points) (now guides) n first kind spokes × VertexRoom (now positions) (now normals) (now tags) (v + vertexCount n) ⌝ }
-    ensures { λ _. ⌜ Wrote (now (positions .entry)) (now (normals .entry)) (now (tags .entry)) v
+    ensures { λ c. ⌜ Began (now (positions .entry)) (now (normals .entry)) (now (tags .entry)) v
         (skinPositions kind (now (points .entry)) (now (guides .entry)) n)
         (skinNormals kind (now (points .entry)) (now (guides .entry)) n)
         (tagsOf first n)
-        (now (positions .exit)) (now (normals .exit)) (now (tags .exit)) ⌝ }
+        c (now (positions .exit)) (now (normals .exit)) (now (tags .exit)) ⌝ }
 {
     let later = v + 9;
     let end = later + 8 * (8 * (n - 1) - 1);
-    start_cap(
+    let start = start_cap(
         points,
         guides,
         positions,
@@ -215,7 +240,7 @@ fn skin(
         first,
         spokes,
     );
-    later_rings(
+    let rings = later_rings(
         points,
         guides,
         positions,
@@ -226,6 +251,7 @@ fn skin(
         later,
         first,
         spokes,
+        start,
     );
     end_cap(
         points,
@@ -238,10 +264,11 @@ fn skin(
         end,
         first,
         spokes,
-    );
+        rings,
+    )
 }
 
-// One tube, from vertex v on. `curve` holds 6n floats: on entry n C-alphas and then n oxygens, with a flag for each that is not 0 where there
+// One tube, from vertex v on, and the corners of its box. `course` holds 6n floats: on entry n C-alphas and then n oxygens, with a flag for each that is not 0 where there
 // is one; on exit n spline points and then n guides.
 pub fn tube_vertices(
     flags: &[u32],
@@ -253,13 +280,13 @@ pub fn tube_vertices(
     kind: Kind,
     v: usize,
     first: u32,
-)
+) -> Bounds
     requires { ⌜ Residues (now flags) (now course) n first × VertexRoom (now positions) (now normals) (now tags) (v + vertexCount n) ⌝ }
-    ensures { λ _. ⌜ Wrote (now (positions .entry)) (now (normals .entry)) (now (tags .entry)) v
+    ensures { λ c. ⌜ Began (now (positions .entry)) (now (normals .entry)) (now (tags .entry)) v
         (positionsOf kind (take (3 * n) (now (course .entry))) (oxygenAt (now (flags .entry)) (drop (3 * n) (now (course .entry)))) n)
         (normalsOf kind (take (3 * n) (now (course .entry))) (oxygenAt (now (flags .entry)) (drop (3 * n) (now (course .entry)))) n)
         (tagsOf first n)
-        (now (positions .exit)) (now (normals .exit)) (now (tags .exit))
+        c (now (positions .exit)) (now (normals .exit)) (now (tags .exit))
         × (now (course .exit) ≡ pointsOf kind (take (3 * n) (now (course .entry))) n
         ++ guidesOf kind (take (3 * n) (now (course .entry))) (oxygenAt (now (flags .entry)) (drop (3 * n) (now (course .entry)))) n) ⌝ }
 {
@@ -278,5 +305,5 @@ pub fn tube_vertices(
         v,
         first,
         spokes,
-    );
+    )
 }

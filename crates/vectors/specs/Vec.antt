@@ -5,6 +5,7 @@ use Prim.Native.Nat.{ℕ, _+_, _*_}
 use lib.ListN.{getD}
 use lib.Ieee.{Float, nan, binary32, ofBits, add, sub, mul, div, eq}
 use Rattle.floats.specs.Floats.{root}
+use Rattle.lists.specs.Put.{upto}
 use Rattle.vectors.specs.declared.Vec3.{Vec3}
 
 abbrev pub f+ : Float → Float → Float
@@ -73,3 +74,7 @@ floats v = v .x ∷ v .y ∷ v .z ∷ []
 
 unfoldable pub vecAt : List Float → ℕ → Vec3
 vecAt l i = vec (getD l (3 * i) nan) (getD l (3 * i + 1) nan) (getD l (3 * i + 2) nan)
+
+-- 01: 'arrays of eight vectors', as floats, one vector after the other
+unfoldable pub eight : List Vec3 → List Float
+eight ps = upto (λ (k : ℕ). floats (getD ps k vpast)) 8

@@ -1,25 +1,26 @@
 use borrow.Author.Needs.{needs}
-use mathlib.Core.Path.{_≡_, refl, ap}
+use mathlib.Core.Path.{_≡_, ap}
 use Prim.Native.Nat.{ℕ, _≤_, _-_, _+_, _*_, _%_}
 use native.Mathlib.Omega.{arith}
 use denote.Ref.{now}
 use Rattle.lists.specs.Put.{put, upto}
 use Rattle.lists.proofs.Puts.{kept}
-use Rattle.skin.specs.Post.{Wrote}
+use Rattle.rings.specs.Post.{Wrote}
 use Rattle.skin.specs.Tube.{ringPositions, ringNormals, ringTags}
-use Rattle.skin.proofs.Laws.{wrote-more, room, length-positions, length-normals, length-tags}
+use Rattle.skin.proofs.Laws.{length-positions, length-normals, length-tags}
+use Rattle.rings.proofs.Laws.{wrote-none, wrote-more, room}
 use Rattle.skin.proofs.tube.later_rings.Statement.{statement}
 use Rattle.skin.proofs.tube.later_rings.Tie as tie
 
 abbrev Inv-loop : tie.InvT-loop
-Inv-loop points guides positions₀ normals₀ tags₀ n kind v first spokes total s₀ at₀ positions normals tags s at = (s ≤ total) × (at ≡ v + s * 8) × Wrote positions₀ normals₀ tags₀ v (upto (λ (s : ℕ). ringPositions kind points guides n (s + 1)) s) (upto (λ (s : ℕ). ringNormals kind points guides n (s + 1)) s) (upto (λ (s : ℕ). ringTags first n (s + 1)) s) positions normals tags
+Inv-loop points guides positions₀ normals₀ tags₀ n kind v first spokes total s₀ at₀ bounds₀ positions normals tags s at bounds = (s ≤ total) × (at ≡ v + s * 8) × Wrote bounds₀ positions₀ normals₀ tags₀ v (upto (λ (s : ℕ). ringPositions kind points guides n (s + 1)) s) (upto (λ (s : ℕ). ringNormals kind points guides n (s + 1)) s) (upto (λ (s : ℕ). ringTags first n (s + 1)) s) bounds positions normals tags
 
 abbrev μ-loop : tie.MeasureT-loop
-μ-loop points guides positions₀ normals₀ tags₀ n kind v first spokes total s₀ at₀ positions normals tags s at = total - s
+μ-loop points guides positions₀ normals₀ tags₀ n kind v first spokes total s₀ at₀ bounds₀ positions normals tags s at bounds = total - s
 
 loop-holds : tie.Need-loop-holds Inv-loop μ-loop
 unfolding put upto
-loop-holds c = (omega arith, omega arith, record { pos = refl; norm = refl; tag = refl })
+loop-holds c = (omega arith, omega arith, wrote-none _ _ _ _ _)
 
 span-rings-requires : tie.Need-span-rings-requires Inv-loop μ-loop
 span-rings-requires c κs =

@@ -1,4 +1,6 @@
-use Rattle.skin.proofs.Laws.{less, whole, room, same-room}
+use Rattle.lists.proofs.Puts.{kept}
+use Rattle.rings.proofs.Laws.{less, room, same-room}
+use Rattle.skin.proofs.Laws.{whole}
 use Rattle.edges.proofs.Theorems.{vertex-count}
 use borrow.Author.Needs.{needs}
 use mathlib.Core.Path.{refl}
@@ -37,5 +39,7 @@ skin-spec =
     start-cap-requires
     later-rings-requires
     end-cap-requires
-    (λ c. search needs) (λ c. search needs) (λ c. search needs)
+    (λ c. kept _ _ _ (returns c .pos))
+    (λ c. kept _ _ _ (returns c .norm))
+    (λ c. kept _ _ _ (returns c .tag))
     returns)

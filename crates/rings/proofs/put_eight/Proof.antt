@@ -6,9 +6,9 @@ use lib.ListN.{getD}
 use Rattle.vectors.specs.Vec.{floats, vpast}
 use Rattle.lists.specs.Put.{put, upto}
 use Rattle.lists.proofs.Puts.{turn, kept}
-use Rattle.skin.specs.Tube.{eight}
-use Rattle.skin.proofs.rings.put_eight.Statement.{statement}
-use Rattle.skin.proofs.rings.put_eight.Tie as tie
+use Rattle.vectors.specs.Vec.{eight}
+use Rattle.rings.proofs.put_eight.Statement.{statement}
+use Rattle.rings.proofs.put_eight.Tie as tie
 
 abbrev Inv-loop : tie.InvT-loop
 Inv-loop out₀ at ps k₀ out k = (k ≤ 8) × (out ≡ put out₀ at (upto (λ (j : ℕ). floats (getD ps j vpast)) k))

@@ -1,10 +1,10 @@
 use mathlib.Core.Path.{refl}
 use native.Mathlib.Omega.{arith}
 use Prim.Native.Nat.{_+_}
-use Rattle.skin.proofs.Laws.{wrote-next, less, room, length-eight}
+use Rattle.rings.proofs.Laws.{wrote-next, less, room, length-eight}
 use borrow.Author.Needs.{needs}
-use Rattle.skin.proofs.rings.put_capped.Statement.{statement}
-use Rattle.skin.proofs.rings.put_capped.Tie as tie
+use Rattle.rings.proofs.put_capped.Statement.{statement}
+use Rattle.rings.proofs.put_capped.Tie as tie
 
 put-vertex-requires : tie.Need-put-vertex-requires
 put-vertex-requires c κs = room _ _ _ _ _ (c .before .before .before .before .before .before .before .before .before .put-ring .ensures) (c .before .before .before .before .before .before .before .before .before .before .before .before .before .before .before .before .pre) (c .before .before .before .before .before .before .before .before .before .before .before .before .before .before .before .before .args .v + 8 + 1) (omega arith)

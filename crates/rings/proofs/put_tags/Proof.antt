@@ -5,8 +5,8 @@ use Prim.Native.Nat.{ℕ, _-_, _≤_}
 use native.Mathlib.Omega.{arith}
 use Rattle.lists.specs.Put.{put, upto}
 use Rattle.lists.proofs.Puts.{set-turn, kept}
-use Rattle.skin.proofs.rings.put_tags.Statement.{statement}
-use Rattle.skin.proofs.rings.put_tags.Tie as tie
+use Rattle.rings.proofs.put_tags.Statement.{statement}
+use Rattle.rings.proofs.put_tags.Tie as tie
 
 abbrev Inv-loop : tie.InvT-loop
 Inv-loop out₀ at tag k₀ out k = (k ≤ 8) × (out ≡ put out₀ at (upto (λ (j : ℕ). tag ∷ []) k))
