@@ -1,12 +1,15 @@
 -- THE DEMANDS, as theorems. Each is over the promises themselves: `Builds s b r b'` is all that the contract of build
 -- says (of a job's bytes s, with the buffers b lent, it answers r and leaves the buffers as b'), `Plans s k c r c'` is
 -- that of plan (of tube number k, with the scratch c lent), and `Tubed` that of the tube call. Assumes nothing.
--- The definitions are those of specs/Calls and specs/Meshes. docs/PROOFS.md quotes each statement, with words.
+-- The definitions are those of specs/Calls, specs/Meshes and specs/Boxes. docs/PROOFS.md quotes each statement, with
+-- words.
 use Prim.Native.Nat.{ℕ, suc, _+_, _*_, _<_, _≤_}
 use mathlib.Core.List.{List}
+use mathlib.Core.Bool.{false}
 use mathlib.Core.Logic.{_⊎_}
 use mathlib.Core.Path.{_≡_, refl}
 use lib.ListN.{length, take}
+use lib.Ieee.{Float, lt, isNan}
 use Rattle.edges.specs.Sound.{Sound, occurs}
 use Rattle.protein.specs.Layout.{headOf}
 use Rattle.job.specs.Refusals.{numberOf}
@@ -28,10 +31,14 @@ use Rattle.promises.specs.Calls.{Builds, Plans}
 use Rattle.promises.specs.Meshes.{proteinIn, tubesIn, Passes, Enough, Buildable}
 use Rattle.promises.specs.Meshes.{Shorter, RoomFor, NoLess, NoShorter}
 use Rattle.promises.specs.Meshes.{HoldsMesh, SameMesh, TubeAt, Stands, TubeStands, verticesOf, trianglesOf}
+use Rattle.promises.specs.Boxes.{VertexOf, firstVertex, coordinate, leastOf, greatestOf}
+use Rattle.promises.specs.Boxes.{Inside, Between, FirstOfEquals, Apart, Below}
 use Rattle.promises.proofs.Checks as checks
 use Rattle.promises.proofs.Answers as build
 use Rattle.promises.proofs.Plans as plan
 use Rattle.promises.proofs.Together as calls
+use Rattle.promises.proofs.Boxes as boxes
+use Rattle.promises.proofs.Models as models
 
 -- ==== Demand 1: 'Every job of bytes and every set of lent buffers gets a mesh or one numbered refusal, with nobody
 -- checking first.' The calls have no `requires`, and every function returns: so there is a result, and only one.
@@ -205,6 +212,71 @@ pub room-means : {s : List ℕ} {b b' : Buffers} {k v t : ℕ} → Builds s b (N
     × ((k ≡ length (tubesIn s)) × (v ≡ vertexSum (tubesIn s)) × (t ≡ triangleSum (tubesIn s)))
     × Shorter (b .outs) (countsOf (tubesIn s))
 room-means B = build.for-room _ _ _ _ _ _ B
+
+-- ==== 02 §2: 'Two models placed by their boxes crossed: rings stand out from the curve. A box now takes the vertices
+-- of its tube, caps included ..' On each axis a, 0 for x, 1 for y, 2 for z, and of each tube k, by its record in the
+-- buffer.
+
+-- no vertex of a tube is outside its box, whatever floats there are
+pub box-holds : {s : List ℕ} {b b' : Buffers} {c : Counts} {k j a : ℕ}
+    → Builds s b (Mesh c) b' → k < c .tubes → a < 3 → VertexOf (b' .outs) k j → Inside (b' .outs) k a j
+box-holds B h axis J = boxes.inside _ _ _ _ _ _ B h axis _ J
+
+-- and where it and the tube's first vertex have numbers there, it is from the least to the greatest
+pub box-between : {s : List ℕ} {b b' : Buffers} {c : Counts} {k j a : ℕ}
+    → Builds s b (Mesh c) b' → k < c .tubes → a < 3 → VertexOf (b' .outs) k j
+    → isNan (coordinate (b' .outs) (firstVertex (b' .outs) k) a) ≡ false → isNan (coordinate (b' .outs) j a) ≡ false
+    → Between (b' .outs) k a j
+box-between B h axis J n m = boxes.between _ _ _ _ _ _ B h axis _ J n m
+
+-- each of a box's six floats is a coordinate of one of the tube's vertices, the first of equals
+pub box-touched : {s : List ℕ} {b b' : Buffers} {c : Counts} {k a : ℕ}
+    → Builds s b (Mesh c) b' → k < c .tubes → a < 3
+    → FirstOfEquals (b' .outs) k a (leastOf (b' .outs) k a) × FirstOfEquals (b' .outs) k a (greatestOf (b' .outs) k a)
+box-touched B h axis = boxes.touched _ _ _ _ _ _ B h axis
+
+-- it is a NaN exactly where that coordinate of the tube's first vertex is one: any other NaN is passed over
+pub box-nan : {s : List ℕ} {b b' : Buffers} {c : Counts} {k a : ℕ}
+    → Builds s b (Mesh c) b' → k < c .tubes → a < 3
+    → (isNan (leastOf (b' .outs) k a) ≡ isNan (coordinate (b' .outs) (firstVertex (b' .outs) k) a))
+    × (isNan (greatestOf (b' .outs) k a) ≡ isNan (coordinate (b' .outs) (firstVertex (b' .outs) k) a))
+box-nan B h axis = boxes.nan-shows _ _ _ _ _ _ B h axis
+
+-- and no other numbers are such: where the tube's first vertex has a number there, the least is the one number that is
+-- a vertex's, the first of equals, and that none is less than; so of the greatest
+pub box-only : {s : List ℕ} {b b' : Buffers} {c : Counts} {k a : ℕ} {x : Float}
+    → Builds s b (Mesh c) b' → k < c .tubes → a < 3
+    → isNan (coordinate (b' .outs) (firstVertex (b' .outs) k) a) ≡ false → isNan x ≡ false
+    → FirstOfEquals (b' .outs) k a x
+    → (((j : ℕ) → VertexOf (b' .outs) k j → lt (coordinate (b' .outs) j a) x ≡ false) → x ≡ leastOf (b' .outs) k a)
+    × (((j : ℕ) → VertexOf (b' .outs) k j → lt x (coordinate (b' .outs) j a) ≡ false) → x ≡ greatestOf (b' .outs) k a)
+box-only B h axis n q f = models.only-such _ _ _ _ _ _ _ B h axis n q f
+
+-- two tubes, of one mesh or of two, whose boxes are apart on an axis have no vertex with a number there in common: a
+-- coordinate of the one is below every one of the other
+pub boxes-apart : {s t : List ℕ} {b b' d d' : Buffers} {c e : Counts} {k m i j a : ℕ}
+    → Builds s b (Mesh c) b' → k < c .tubes → Builds t d (Mesh e) d' → m < e .tubes → a < 3
+    → Apart (b' .outs) k (d' .outs) m a → VertexOf (b' .outs) k i → VertexOf (d' .outs) m j
+    → Below (coordinate (b' .outs) i a) (coordinate (d' .outs) j a)
+boxes-apart B h D l axis A I J = boxes.apart _ _ _ _ _ _ _ _ _ _ _ _ _ B h D l axis A I J
+
+-- a vertex of a tube is one of the mesh's V,
+pub vertex-in-mesh : {s : List ℕ} {b b' : Buffers} {c : Counts} {k j : ℕ}
+    → Builds s b (Mesh c) b' → k < c .tubes → VertexOf (b' .outs) k j → j < c .vertices
+vertex-in-mesh B h J = models.in-mesh _ _ _ _ B _ _ h J
+
+-- and each of these is one of some tube
+pub vertex-has-tube : {s : List ℕ} {b b' : Buffers} {c : Counts} {j : ℕ}
+    → Builds s b (Mesh c) b' → j < c .vertices → (k : ℕ) × (k < c .tubes) × VertexOf (b' .outs) k j
+vertex-has-tube B h = models.has-tube _ _ _ _ B _ h
+
+-- two models: where every box of the one is apart from every box of the other on an axis, they have no vertex with a
+-- number there in common
+pub models-apart : {s t : List ℕ} {b b' d d' : Buffers} {c e : Counts} {i j a : ℕ}
+    → Builds s b (Mesh c) b' → Builds t d (Mesh e) d' → a < 3
+    → ((k m : ℕ) → k < c .tubes → m < e .tubes → Apart (b' .outs) k (d' .outs) m a)
+    → i < c .vertices → j < e .vertices → Below (coordinate (b' .outs) i a) (coordinate (d' .outs) j a)
+models-apart B D axis A p q = models.apart _ _ _ _ _ _ _ _ _ _ _ B D axis A p q
 
 -- ==== The calls together: plan, lend what plan says, build, take a tube.
 

@@ -7,5 +7,7 @@ pub mod Parts
 pub mod Answers
 pub mod Plans
 pub mod Together
+pub mod Boxes
+pub mod Models
 pub mod Demands
 pub mod Kept

@@ -163,8 +163,8 @@ stands P us o o' k u long H e =
 
 -- ---- a place of a part
 
-place : (l x : List ℕ) (i n j : ℕ) → Stands l i n x → j < n → getD l (i + j) 0 ≡ getD x j 0
-place l x i n j S h = sym (getD-drop i l j 0) ∙ sym (getD-take n (drop i l) j 0 h) ∙ ap (λ (y : List ℕ). getD y j 0) (S .there)
+pub place : {A : Type 0} (l x : List A) (i n j : ℕ) (d : A) → take n (drop i l) ≡ x → j < n → getD l (i + j) d ≡ getD x j d
+place l x i n j d e h = sym (rw (← e, getD-take, getD-drop))
 
 -- a part that is not empty lies in its buffer
 within : (l x : List ℕ) (i n : ℕ) → Stands l i n x → 0 < n → i + n ≤ length l
@@ -180,8 +180,8 @@ within l x i n S h = omega (arith, taken (drop i l) n, ap length (S .there), S .
 pub part-is : (P : Protein) (u : Tube) (k v t : ℕ) (o : Outs) → sizeOf u ≤ 16384 → TubeStands P u k v t o → tubePart (o .tubes) (o .triangles) k ≡ tubeTriangles v u
 unfolding tubeWords
 part-is P u k v t o most S =
-    let n : getD (o .tubes) (5 * k + 2) 0 ≡ sizeOf u = place (o .tubes) _ (5 * k) 5 2 (S .words) (omega arith) in
-    let f : getD (o .tubes) (5 * k + 4) 0 ≡ t = place (o .tubes) _ (5 * k) 5 4 (S .words) (omega arith) in
+    let n : getD (o .tubes) (5 * k + 2) 0 ≡ sizeOf u = place (o .tubes) _ (5 * k) 5 2 0 (S .words .there) (omega arith) in
+    let f : getD (o .tubes) (5 * k + 4) 0 ≡ t = place (o .tubes) _ (5 * k) 5 4 0 (S .words .there) (omega arith) in
     let two = S .two in
     let w = within (o .tubes) _ (5 * k) 5 (S .words) (omega arith) in
     let r = within (o .triangles) _ (3 * t) (3 * trianglesOf u) (S .triangles) (omega arith) in

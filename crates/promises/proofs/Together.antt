@@ -35,7 +35,7 @@ pub stands : (s : List ℕ) (b b' : Buffers) (c : Counts) (k : ℕ) (u : Tube) �
 stands s b b' c k u B at = parts.stands (proteinIn s) (tubesIn s) (b .outs) (b' .outs) k u (list-long-of s (headOf s)) (meshed s b b' c B .holds) at
 
 -- K of a mesh is its list's length
-long : (s : List ℕ) (b b' : Buffers) (c : Counts) → Builds s b (Mesh c) b' → c .tubes ≡ length (tubesIn s)
+pub long : (s : List ℕ) (b b' : Buffers) (c : Counts) → Builds s b (Mesh c) b' → c .tubes ≡ length (tubesIn s)
 long s b b' c B = ap (λ (n : Counts). n .tubes) (meshed s b b' c B .counts)
 
 pub there : (s : List ℕ) (b b' : Buffers) (c : Counts) → Builds s b (Mesh c) b' → (k : ℕ) → k < c .tubes → (u : Tube) × TubeAt (tubesIn s) k u

@@ -100,8 +100,11 @@ pub record Stands {A : Type 0} (l : List A) (i n : ℕ) (x : List A) : Type 0 wh
   pub there : take n (drop i l) ≡ x
 
 -- 64n-54 and 128n-112
+abbrev pub verticesFor : ℕ → ℕ
+verticesFor n = 64 * n - 54
+
 abbrev pub verticesOf : Tube → ℕ
-verticesOf u = 64 * sizeOf u - 54
+verticesOf u = verticesFor (sizeOf u)
 
 abbrev pub trianglesOf : Tube → ℕ
 trianglesOf u = 128 * sizeOf u - 112

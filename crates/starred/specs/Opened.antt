@@ -4,7 +4,7 @@ use Prim.Native.Nat.{ℕ}
 use lib.Count.{trailingZeros}
 use lib.Ieee.{toBits, ofBits, ofFields, odd, span, climb, size, units, round, sum, add, sub, neg, mul, div, ofInt, lt, eq, le, isNan}
 use Rattle.floats.specs.Floats.{narrowed, root, nearestRoot, floorRoot, rootDigits, greater, absolute}
-use Rattle.vectors.specs.Vec.{vadd, vsub, vscale, vcross, vdot, vlength, normalised, vecAt}
+use Rattle.vectors.specs.Vec.{vadd, vsub, vscale, vcross, vdot, vlength, normalised, vecAt, eight}
 use Rattle.lists.specs.Put.{put, upto}
 use Rattle.lists.specs.Search.{first, last}
 use Rattle.numbers.specs.Bytes.{u16At, u32At, u64At}
@@ -60,7 +60,7 @@ opensCourse = 0
 unfoldable pub opensSkin : ℕ
 unfolding
     opensCourse shape.cosBits shape.sinBits shape.cosAt shape.sinAt shape.halfSizes shape.inArrow shape.arrow shape.profileOf shape.steep shape.spokeAt
-    shape.spokesOf shape.pointOn shape.normalOn shape.ringOver shape.crossSection ringAt tagAt skin.ordered skin.eight skin.ringPositions
+    shape.spokesOf shape.pointOn shape.normalOn shape.ringOver shape.crossSection ringAt tagAt skin.ordered eight skin.ringPositions
     skin.ringNormals skin.ringTags skin.startNormal skin.endNormal skin.skinPositions skin.skinNormals skin.positionsOf skin.normalsOf skin.tagsOf
 opensSkin = 0
 

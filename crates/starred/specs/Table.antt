@@ -4,7 +4,7 @@ use mathlib.Core.List.{List, [], _∷_, _++_}
 use lib.ListN.{replicate}
 use Rattle.starred.specs.Jobs.{empty, oneResidue, twoResidues, sixResidues, backwards, lone}
 use Rattle.starred.specs.Tests.{helix, coil, roomFor, Case, written, list, totals, words, built, refused, unplanned, counts, rings, corners, tags}
-use Rattle.starred.specs.Tests.{half, firstVertex, cut, kept, roots, narrows}
+use Rattle.starred.specs.Tests.{half, firstVertex, box, boxes, cut, kept, roots, narrows}
 
 unfoldable pub starred : List Case
 unfolding empty oneResidue sixResidues
@@ -73,6 +73,11 @@ others =
     ∷ firstVertex twoResidues 0xBE800000 0xBF800000
     -- 'Start above end is a segment with no atoms': the helix covers nothing, and all six residues are one coil
     ∷ list backwards (coil (0 ∷ 1 ∷ 2 ∷ 3 ∷ 4 ∷ 5 ∷ []) ∷ [])
+    -- 02 §2, 'all else about it stays', of vertices (3,0,-0), (0,-0,0), (-0,1,-0): least x is the 0 that stands before -0, least y the 0 and greatest z the -0
+    ∷ box (0x40400000 ∷ 0 ∷ 0x80000000 ∷ 0 ∷ 0x80000000 ∷ 0 ∷ 0x80000000 ∷ 0x3F800000 ∷ 0x80000000 ∷ [])
+    (0 ∷ 0 ∷ 0x80000000 ∷ 0x40400000 ∷ 0x3F800000 ∷ 0x80000000 ∷ [])
+    -- 02 §2, 'A box now takes the vertices of its tube': of the two residues at (0,0,0) and (4,0,0), from (0,-0.25,-0.25) to (4,0.25,0.25)
+    ∷ boxes twoResidues (0 ∷ 0xBE800000 ∷ 0xBE800000 ∷ 0x40800000 ∷ 0x3E800000 ∷ 0x3E800000 ∷ [])
     -- the tubes of the six residues stand one after the other
     ∷ words sixResidues 6 0 (1 ∷ 2 ∷ 2 ∷ 0 ∷ 0 ∷ [])
     ∷ words sixResidues 6 1 (0 ∷ 0 ∷ 3 ∷ 74 ∷ 144 ∷ [])

@@ -2,13 +2,14 @@
 -- the cases. The `unfolding` lines are for antt alone, which computes the tests.
 use Prim.Native.Nat.{ℕ, suc, _+_, _*_}
 use mathlib.Core.Bool.{Bool, true, false, not, _&&_}
-use mathlib.Core.List.{List, [], _∷_}
+use mathlib.Core.List.{List, [], _∷_, map}
 use lib.Dec.{eqb}
 use lib.ListN.{length, take, drop}
 use lib.Ieee.{binary32, binary64, toBits, ofBits, eq}
 use Rattle.floats.specs.Floats.{narrowed, root}
 use Rattle.vectors.specs.declared.Vec3.{Vec3}
 use Rattle.vectors.specs.Vec.{vec, vecAt, lit}
+use Rattle.lists.specs.Put.{upto}
 use Rattle.lists.specs.Same.{sameList}
 use Rattle.edges.specs.Tube.{vertexCount, triangleCount, tube}
 use Rattle.edges.specs.Tube as edges
@@ -22,11 +23,12 @@ use Rattle.job.specs.Check.{check}
 use Rattle.job.specs.Refusals.{numberOf, carried}
 use Rattle.job.specs.declared.Checked.{Checked}
 use Rattle.job.specs.declared.Checked.the-variants.{Fine, Refused}
+use Rattle.boxes.specs.Box.{along, foremost, foremostOf, boxOf}
 use Rattle.skin.specs.Tube.{tagsOf}
 use Rattle.tubes.specs.Tubes.{Tube}
 use Rattle.tubes.specs.declared.Source.{Source}
 use Rattle.tubes.specs.declared.Source.the-variants.{Coils, Segment}
-use Rattle.mesh.specs.Mesh.{meshPositions, meshNormals}
+use Rattle.mesh.specs.Mesh.{boxBy, tubeBox, meshPositions, meshNormals, meshBoxes}
 use Rattle.room.specs.Room.{Lent, shortScratch, tooMany, tight}
 use Rattle.promises.specs.Calls.{jobTubes, wordsAt, buildChecks, buildAnswer, planChecks, planAnswer}
 use Rattle.promises.specs.declared.Built.{Built}
@@ -177,6 +179,18 @@ unfoldable pub firstVertexIs : List ℕ → ℕ → ℕ → Bool
 unfolding jobTubes opensMesh
 firstVertexIs s z w = ifFine (check s) (λ h. firstIn (proteinOf s h) (jobTubes s h) z w)
 
+-- ---- boxes
+
+-- 'least x, y, z, then greatest x, y, z', 'the earlier of equals is kept': of a flat list of vertices, by their f32 bits
+unfoldable pub boxIs : List ℕ → List ℕ → Bool
+unfolding sameList along foremost foremostOf boxOf upto opensFloats
+boxIs l six = sameList (map (toBits binary32) (boxOf (map (ofBits binary32) l))) six
+
+-- the boxes of a job's tubes, one after the other
+unfoldable pub boxesAre : List ℕ → List ℕ → Bool
+unfolding sameList along foremost foremostOf boxOf boxBy tubeBox meshBoxes jobTubes opensMesh
+boxesAre s l = ifFine (check s) (λ h. sameList (map (toBits binary32) (meshBoxes (proteinOf s h) (jobTubes s h))) l)
+
 -- ---- floats
 
 -- 'Step (3,4,0) is not cut; a step of f32 bits 40A00001 along x is': from (0,0,0) to these bits
@@ -210,12 +224,13 @@ pub data Case : Type 0 where
   tags : ℕ → List ℕ → Case
   half : ℕ → ℕ → ℕ → Case
   firstVertex : List ℕ → ℕ → ℕ → Case
+  box boxes : List ℕ → List ℕ → Case
   cut kept : ℕ → ℕ → ℕ → Case
   roots narrows : ℕ → ℕ → Case
 
 unfoldable pub caseHolds : Case → Bool
 unfolding
-    isWritten tubesAre totalsAre wordsAre builds refuses refusesPlan countsAre ringsAre cornersAre tagsAre halfIs firstVertexIs isCut rootIs narrowedIs
+    isWritten tubesAre totalsAre wordsAre builds refuses refusesPlan countsAre ringsAre cornersAre tagsAre halfIs firstVertexIs boxIs boxesAre isCut rootIs narrowedIs
 caseHolds (written s n front) = isWritten s n front
 caseHolds (list s us) = tubesAre s us
 caseHolds (totals s r l) = totalsAre s r l
@@ -229,6 +244,8 @@ caseHolds (corners n t l) = cornersAre n t l
 caseHolds (tags n l) = tagsAre n l
 caseHolds (half n s b) = halfIs n s b
 caseHolds (firstVertex s z w) = firstVertexIs s z w
+caseHolds (box l six) = boxIs l six
+caseHolds (boxes s l) = boxesAre s l
 caseHolds (cut x y z) = isCut x y z
 caseHolds (kept x y z) = not (isCut x y z)
 caseHolds (roots b r) = rootIs b r
