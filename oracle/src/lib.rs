@@ -5,6 +5,7 @@ pub mod angles;
 pub mod calls;
 pub mod cases;
 pub mod compare;
+pub mod differences;
 pub mod generator;
 pub mod job;
 pub mod jobs;

@@ -1,5 +1,6 @@
-//! The program `oracle`: answers requests, generates them, compares another program with itself, and writes what is recorded. A bad
-//! command line gives a message on standard error and exit status 2, a difference exit status 1.
+//! The program `oracle`: answers requests, generates them, compares another program with itself, writes what is recorded, and counts what
+//! two recordings differ in. A bad command line gives a message on standard error and exit status 2, a difference exit status 1, unless it
+//! was asked to count them.
 
 use std::{
     fs,
@@ -12,6 +13,7 @@ use std::{
 use oracle::{
     angles,
     compare::{Options, compare},
+    differences::{Recording, differences},
     generator::Kind,
     pdb::job_of,
     plan_text::plan_text,
@@ -25,6 +27,7 @@ const USAGE: &str = "usage:
   oracle compare [--kind KIND] [--jobs N] [--seed S] [--out DIR] -- PROGRAM [ARGUMENT ...]   compares PROGRAM with the oracle
   oracle generate [--kind KIND] [--jobs N] [--seed S]          requests on standard output; KIND is jobs, files, both or orders
   oracle record --out DIR                                      writes the recorded answers
+  oracle differences OLD NEW                                   which words differ between the recorded answers in two folders
   oracle read-pdb [FILE]                                       the job of a PDB file (or of standard input) on standard output
   oracle plan-text                                             a job on standard input; prints what ribbon-plan prints
   oracle angles                                                the eight cosines and sines of this machine
@@ -110,6 +113,24 @@ fn run_record(args: &[String]) -> Result<bool, String> {
     Ok(true)
 }
 
+/// What differs, on standard output. Exit status 1 where the requests are not the same, or an answer has another length or kind.
+fn run_differences(args: &[String]) -> Result<bool, String> {
+    let [old, new] = args else {
+        return Err("differences takes two folders".to_string());
+    };
+    let [old, new] = [old, new].map(|folder| Recording::read(Path::new(folder)));
+    match differences(&old?, &new?) {
+        Ok(found) => {
+            print!("{}", found.text());
+            Ok(found.unlike.is_empty())
+        }
+        Err(why) => {
+            println!("{why}");
+            Ok(false)
+        }
+    }
+}
+
 /// The job on standard output, or the refusal on standard error and exit status 1.
 fn run_read_pdb(args: &[String]) -> Result<bool, String> {
     let file = match args {
@@ -150,6 +171,7 @@ fn run(args: &[String]) -> Result<bool, String> {
         "compare" => run_compare(rest),
         "generate" => run_generate(rest),
         "record" => run_record(rest),
+        "differences" => run_differences(rest),
         "read-pdb" => run_read_pdb(rest),
         "plan-text" => run_plan_text(rest),
         "angles" => {

@@ -129,6 +129,47 @@ fn answers_of_the_recorded_requests() {
     assert!(cut.stdout.len() < answers.len() && answers.starts_with(&cut.stdout));
 }
 
+/// A folder as `oracle record` leaves it, with these answers.
+fn recorded(name: &str, requests: &[u8], answers: &[u8]) -> String {
+    let folder = folder(name);
+    fs::write(folder.join("requests.bin"), requests).unwrap();
+    fs::write(folder.join("answers.bin"), answers).unwrap();
+    folder.to_str().unwrap().to_string()
+}
+
+#[test]
+fn what_two_recordings_differ_in() {
+    let r = plan_request(&two_residues(), 0);
+    let answers = encode_words(&answer(&r));
+    let old = recorded("old", &r.encode(), &answers);
+    let status_and_text = |new: &str| {
+        let output = run(&["differences", &old, new], &[]);
+        let text = String::from_utf8(output.stdout).unwrap();
+        (output.status.code(), text)
+    };
+    // Words that differ are counted, and no failure.
+    let mut other = answers.clone();
+    other[36] ^= 1;
+    let (status, text) = status_and_text(&recorded("other", &r.encode(), &other));
+    assert_eq!(status, Some(0), "{text}");
+    let row = "\nscratch words                16          1\n";
+    assert!(text.contains(row), "{text}");
+    // An answer of another kind, and another request, are.
+    other[3] = 9;
+    let (status, text) = status_and_text(&recorded("kind", &r.encode(), &other));
+    assert_eq!(status, Some(1), "{text}");
+    let next = plan_request(&two_residues(), 1).encode();
+    let (status, text) = status_and_text(&recorded("request", &next, &answers));
+    assert_eq!(status, Some(1), "{text}");
+    assert!(text.starts_with("the requests differ"), "{text}");
+    // No folder, no request, or a cut one: nothing could be compared.
+    for requests in [&[][..], &r.encode()[1..]] {
+        let (status, _) = status_and_text(&recorded("cut", requests, &answers));
+        assert_eq!(status, Some(2));
+    }
+    assert_eq!(status_and_text("no-such-folder-at-all").0, Some(2));
+}
+
 #[test]
 fn requests_that_are_passed_over() {
     let good = plan_request(&two_residues(), 0);
@@ -176,6 +217,9 @@ fn bad_command_lines() {
         &["read-pdb", "a", "b"],
         &["answer", "--wrong", "Nothing"],
         &["record"],
+        &["differences"],
+        &["differences", "old"],
+        &["differences", "old", "new", "newer"],
         &["plan-text", "file"],
         &["generate", "--job", "1"],
     ];
