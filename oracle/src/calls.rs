@@ -118,7 +118,8 @@ pub fn build(bytes: &[u8], b: &mut Buffers) -> Result<Counts, Refusal> {
     }
     clear_scratch(&job, &mut b.words, &mut b.floats);
     let counts = checked?;
-    let (tubes, mesh) = run(&job, Pass::Build);
+    let (mut tubes, mesh) = run(&job, Pass::Build);
+    tubes.bound(&mesh.vertices);
     write(&tubes, &mesh, b);
     Ok(counts)
 }

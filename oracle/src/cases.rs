@@ -66,7 +66,8 @@ pub fn two_residues() -> RawJob {
     step(4.0, 0.0, 0.0)
 }
 
-/// 01's four narrowing cases as coordinates, which the box then shows.
+/// 01's four narrowing cases as coordinates. The start centre stands at the first C-alpha exactly and shows three of them; the fourth, in the
+/// second residue, it shows where the two change places.
 pub fn narrowing() -> RawJob {
     let third = 1.0 + 3.0 * 2f64.powi(-24);
     chain_at(&[

@@ -31,7 +31,7 @@ use crate::{
     stand_ins::{
         Atom, AtomRole, BackboneSS, Chain, Mesh, Residue, SecondaryStructure, Tag, Vec3F32, Vertex,
     },
-    tubes::{Pass, Tubes},
+    tubes::{Pass, Tubes, bounds},
     wrong::{Mutation, wrong},
 };
 
@@ -643,6 +643,16 @@ fn extend_run(
     ext
 }
 
+/// oracle: the tube list. Its boxes take the vertices of the whole mesh afterwards; or, the mistake, the C-alphas.
+fn list_tube(tubes: &mut Tubes, frames: &[ResidueFrame], ss: SecondaryStructure) {
+    tubes.add(ss, frames[0].res_idx, frames.len());
+    if wrong(Mutation::BoxOfAlphas)
+        && let Some(tube) = tubes.list.last_mut()
+    {
+        tube.bounds = bounds(frames.iter().map(|f| f.ca.to_arr()));
+    }
+}
+
 pub fn build_ribbon_mesh(
     backbone: &[BackboneSS],
     atoms: &[Atom],
@@ -742,7 +752,7 @@ pub fn build_ribbon_mesh(
                     continue;
                 }
                 // oracle: the tube list.
-                tubes.add(seg.sec_struct, sub[0].res_idx, sub.iter().map(|f| f.ca));
+                list_tube(&mut tubes, sub, seg.sec_struct);
                 if pass == Pass::List {
                     continue;
                 }
@@ -791,11 +801,7 @@ pub fn build_ribbon_mesh(
             }
 
             // oracle: the tube list.
-            tubes.add(
-                SecondaryStructure::Coil,
-                sub[0].res_idx,
-                sub.iter().map(|f| f.ca),
-            );
+            list_tube(&mut tubes, sub, SecondaryStructure::Coil);
             if pass == Pass::List {
                 continue;
             }

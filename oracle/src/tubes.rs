@@ -1,7 +1,7 @@
 //! What 01 adds beside the mesh: the tube list with its five words and boxes, and the sums K, V, T.
 
 use crate::{
-    stand_ins::{SecondaryStructure, Vec3F32},
+    stand_ins::{SecondaryStructure, Vertex},
     wrong::{Mutation, wrong},
 };
 
@@ -28,7 +28,7 @@ pub enum Pass {
 pub struct Tube {
     /// kind, first residue, residues n, first vertex, first triangle
     pub words: [u32; 5],
-    /// least x, y, z, then greatest x, y, z
+    /// least x, y, z, then greatest x, y, z; zeros until there are vertices. A list alone has none, and the plan shows no box.
     pub bounds: [f32; 6],
 }
 
@@ -47,14 +47,9 @@ impl Tubes {
         Self::default()
     }
 
-    pub fn add(
-        &mut self,
-        ss: SecondaryStructure,
-        first_residue: usize,
-        cas: impl ExactSizeIterator<Item = Vec3F32>,
-    ) {
-        let n = cas.len() as u64;
-        if self.v + vertices_of(n) <= MAX_VERTICES {
+    pub fn add(&mut self, ss: SecondaryStructure, first_residue: usize, n: usize) {
+        let residues = n as u64;
+        if self.v + vertices_of(residues) <= MAX_VERTICES {
             let kind = match ss {
                 SecondaryStructure::Coil => 0,
                 SecondaryStructure::Helix => 1,
@@ -68,31 +63,49 @@ impl Tubes {
                     self.v as u32,
                     self.t as u32,
                 ],
-                bounds: bounds(cas),
+                bounds: [0.0; 6],
             });
         }
         self.k += 1;
-        self.v += vertices_of(n);
-        self.t += triangles_of(n);
+        self.v += vertices_of(residues);
+        self.t += triangles_of(residues);
+    }
+
+    /// The boxes, once the mesh is built. 02 §2: 'A box now takes the vertices of its tube, caps included, where document 01 takes C-alphas;
+    /// all else about it stays.' A tube's vertices stand from its first on: first ring, start centre, later rings, end centre.
+    pub fn bound(&mut self, vertices: &[Vertex]) {
+        // The mistake: the box of the C-alphas stays, which came with the list.
+        if wrong(Mutation::BoxOfAlphas) {
+            return;
+        }
+        for tube in &mut self.list {
+            let [_, _, n, first, _] = tube.words;
+            let mut own = &vertices[first as usize..][..vertices_of(n as u64) as usize];
+            if wrong(Mutation::BoxOfFirstRing) {
+                own = &own[..8];
+            }
+            tube.bounds = if wrong(Mutation::BoxOfNormals) {
+                bounds(own.iter().map(|v| v.normal.to_arr()))
+            } else {
+                bounds(own.iter().map(|v| v.position))
+            };
+        }
     }
 }
 
-/// 01: 'the least and greatest C-alpha coordinate on each axis over the tube's frames; the earlier of equals is kept.'
-fn bounds(cas: impl Iterator<Item = Vec3F32>) -> [f32; 6] {
-    let mut cas = cas.map(Vec3F32::to_arr);
-    let first = cas.next().expect("a tube has frames");
+/// 01: 'the least and greatest C-alpha coordinate on each axis over the tube's frames; the earlier of equals is kept', of which 02 §2 changes
+/// the points alone. So the tests are strict: of -0 and +0 the earlier stays. The documents do not speak of NaN; by the same tests a later
+/// one is passed over, and one that is first stays for ever, which `f32::min` and `f32::max` would let go.
+pub fn bounds(mut points: impl Iterator<Item = [f32; 3]>) -> [f32; 6] {
+    let first = points.next().expect("a tube has vertices");
     let (mut least, mut greatest) = (first, first);
-    for (i, ca) in cas.enumerate() {
-        if wrong(Mutation::BoxOfFirstTwo) && i > 0 {
-            break;
-        }
+    for p in points {
         for a in 0..3 {
-            let later = wrong(Mutation::BoxLaterOfEquals);
-            if ca[a] < least[a] || later && ca[a] == least[a] {
-                least[a] = ca[a];
+            if p[a] < least[a] {
+                least[a] = p[a];
             }
-            if ca[a] > greatest[a] || later && ca[a] == greatest[a] {
-                greatest[a] = ca[a];
+            if p[a] > greatest[a] {
+                greatest[a] = p[a];
             }
         }
     }

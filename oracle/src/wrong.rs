@@ -37,8 +37,12 @@ mutations! {
     SumReordered "one sum of the spline is taken in another order",
     OneHelper "fallback_perp has one helper for all directions",
     TagAfterHalf "a tag turns after t = 0.5, not at it",
-    BoxLaterOfEquals "a box keeps the later of equal coordinates",
-    BoxOfFirstTwo "a box takes the first two frames only",
+    // Two mistakes about boxes are not here, since none of the generator's requests would show them. The later of equals: in 750,000 tubes of
+    // its jobs no box had -0 and +0 to choose from; `tests/boxes.rs` holds the fold, and has a made job that shows it. A box without the
+    // cap centres: on each axis a ring has a vertex not below its centre and one not above it, and stands before it, so no box would change.
+    BoxOfFirstRing "a box takes the first ring only",
+    BoxOfAlphas "a box takes the C-alphas, as 01 had it",
+    BoxOfNormals "a box takes the normals",
     SevenWithEight "checks 7 and 8 are made together, atom by atom",
     EightForCaOnly "check 8 looks at C-alphas only",
     LimitExclusive "a coordinate of exactly 16384 is refused",

@@ -6,8 +6,8 @@ use common::{build_in, built, fitting, tubes};
 use oracle::{
     calls::{Buffers, Counts, plan, tube},
     cases::{
-        at_vertex_limit, chain_at, coordinate, narrowing, six_residues, step, straight,
-        straight_segment, two_residues,
+        at_vertex_limit, coordinate, narrowing, six_residues, step, straight, straight_segment,
+        two_residues,
     },
     job::{RawJob, Refusal, decode},
     plan_text::plan_text,
@@ -70,19 +70,21 @@ fn square_roots() {
     assert_eq!((-0f32).sqrt().to_bits(), (-0f32).to_bits());
 }
 
+/// At t = 0 the curve stands at the first C-alpha exactly, and so does the start centre.
 #[test]
-fn narrowing_shows_in_the_box() {
-    let (_, b) = built(&narrowing());
-    let bits: Vec<u32> = b.boxes.iter().map(|f| f.to_bits()).collect();
-    let expected = [
-        0,
-        1f32.to_bits(),
-        0x3F80_0002,
-        0x3DCC_CCCD,
-        1.5f32.to_bits(),
-        2f32.to_bits(),
-    ];
-    assert_eq!(bits, expected);
+fn narrowing_shows_in_the_start_centre() {
+    let start_centre = |job: &RawJob| {
+        let (_, b) = built(job);
+        [24, 25, 26].map(|i| b.positions[i].to_bits())
+    };
+    let mut job = narrowing();
+    let first = [0x3DCC_CCCD, 1f32.to_bits(), 0x3F80_0002];
+    assert_eq!(start_centre(&job), first);
+    // The other residue's coordinates, and with them the fourth case, come first.
+    let (one, two) = job.atoms.split_at_mut(1);
+    std::mem::swap(&mut one[0].xyz, &mut two[0].xyz);
+    let second = [0, 1.5f32.to_bits(), 2f32.to_bits()];
+    assert_eq!(start_centre(&job), second);
 }
 
 /// Vertex `side` of ring `s` of the first tube.
@@ -152,8 +154,7 @@ fn vertices_past_two_to_the_32_do_not_wrap() {
     // What 61,056 segments over 1,100 residues add up to. Wrapped, the sum would be 78,080 and pass check 10.
     let mut tubes = Tubes::new();
     for _ in 0..61_056 {
-        let cas = [Vec3F32::new(0.0, 0.0, 0.0); 1100].into_iter();
-        tubes.add(SecondaryStructure::Helix, 0, cas);
+        tubes.add(SecondaryStructure::Helix, 0, 1100);
     }
     assert_eq!(
         (tubes.k, tubes.v, tubes.t),
@@ -179,14 +180,6 @@ fn the_part_of_a_tube() {
     for n in [0, 1, 16_384, 16_385, 2 + (1 << 25)] {
         assert!(tube(&[0, 0, n, 0, 0], &b.triangles, 0).is_empty());
     }
-}
-
-#[test]
-fn the_earlier_of_equal_coordinates_is_kept() {
-    let (_, b) = built(&chain_at(&[[0.0, -0.0, 1.0], [-0.0, 0.0, 2.0]]));
-    let bits: Vec<u32> = b.boxes.iter().map(|f| f.to_bits()).collect();
-    let minus = (-0f32).to_bits();
-    assert_eq!(bits, [0, minus, 1f32.to_bits(), 0, minus, 2f32.to_bits()]);
 }
 
 #[test]

@@ -1,5 +1,5 @@
-//! 01's own sentences on tubes, tags, triangles and boxes, read plainly and by residue, give what document 000 gives. So a reading of
-//! the page that differs from the Rust would show here.
+//! 01's own sentences on tubes, tags and triangles, read plainly and by residue, give what document 000 gives, and so does 02's on boxes,
+//! read plainly over the positions that were built. So a reading of the page that differs from the Rust would show here.
 
 mod common;
 
@@ -125,15 +125,14 @@ fn tubes(job: &RawJob) -> Vec<(u8, Vec<Frame>)> {
     out
 }
 
-/// 'A box is the least and greatest C-alpha coordinate on each axis ..; the earlier of equals is kept.'
-fn box_bits(tube: &[Frame]) -> [u32; 6] {
+/// 'A box is the least and greatest .. coordinate on each axis ..; the earlier of equals is kept', and by 02 §2 it 'takes the vertices of its
+/// tube, caps included': the first coordinate that none is below, and the first that none is above.
+fn box_bits(positions: &[f32], [_, _, n, vertex, _]: [u32; 5]) -> [u32; 6] {
+    let own = &positions[3 * vertex as usize..][..3 * (64 * n as usize - 54)];
     std::array::from_fn(|i| {
-        let axis = tube.iter().map(|f| f.1[i % 3]);
-        let kept = axis.reduce(|kept, x| {
-            let better = if i < 3 { x < kept } else { x > kept };
-            if better { x } else { kept }
-        });
-        kept.unwrap().to_bits()
+        let axis = || own.iter().skip(i % 3).step_by(3);
+        let kept = |x: &&f32| axis().all(|y| if i < 3 { *x <= y } else { *x >= y });
+        axis().find(kept).expect("no NaN").to_bits()
     })
 }
 
@@ -198,18 +197,33 @@ fn the_page_gives_the_same_tubes() {
                 let words = [*kind as u32, frames[0].0 as u32, n, v, t];
                 v += 64 * n - 54;
                 t += 128 * n - 112;
-                (words, box_bits(frames))
+                words
             })
             .collect();
-        let got: Vec<_> = listed
-            .list
-            .iter()
-            .map(|tube| (tube.words, tube.bounds.map(f32::to_bits)))
-            .collect();
+        let got: Vec<_> = listed.list.iter().map(|tube| tube.words).collect();
         assert_eq!(got, expected, "job {i}");
         compared += got.len();
     }
     assert!(compared > 20_000, "only {compared} tubes");
+}
+
+#[test]
+fn the_page_gives_the_same_boxes() {
+    let mut compared = 0;
+    for i in 0..4000 {
+        let job = job(&mut Rng::new(23, i));
+        // A coordinate is held against all others of its tube, so the largest jobs are left out.
+        if !decode(&job.bytes()).is_ok_and(|j| list(&j).v < 10_000) {
+            continue;
+        }
+        let (_, b) = built(&job);
+        let tubes = common::tubes(&b).into_iter();
+        let expected: Vec<u32> = tubes.flat_map(|t| box_bits(&b.positions, t)).collect();
+        let got: Vec<u32> = b.boxes.iter().map(|f| f.to_bits()).collect();
+        assert_eq!(got, expected, "job {i}");
+        compared += got.len() / 6;
+    }
+    assert!(compared > 8000, "only {compared} tubes");
 }
 
 #[test]
