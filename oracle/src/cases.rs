@@ -1,4 +1,4 @@
-//! The bench cases of 01 as jobs and requests, for the tests and for the recorded answers.
+//! The bench cases of 01 as jobs and requests, and a job for 02's boxes, for the tests and for the recorded answers.
 
 use crate::{
     calls::needs,
@@ -78,6 +78,25 @@ pub fn narrowing() -> RawJob {
         ],
         [2f64.powi(-150), 1.5, 2.0],
     ])
+}
+
+/// The smallest job known at which 'the earlier of equals is kept' shows in a box: its greatest y is +0, and would be -0 by the later. The step
+/// is so short that the tangent falls back to y, so that rings lie across y, and half of -2^-149 is -0.
+pub fn ties() -> RawJob {
+    let mut job = chain_at(&[[0.0; 3], [0.0, -(2f64.powi(-149)), 0.0]]);
+    job.atoms.push(RawAtom {
+        serial: 1,
+        role: 2,
+        residue: 0,
+        chain: 0,
+        xyz: [-1.0, 0.0, 0.0],
+    });
+    job.segments.push(RawSegment {
+        kind: 0,
+        start: 1,
+        end: 2,
+    });
+    job
 }
 
 /// One atom with one coordinate.

@@ -1,13 +1,15 @@
 //! Makes requests: jobs of every kind, each refusal at its boundary, damaged jobs, lent lengths around each need, tube buffers with any
-//! contents, and PDB files. Request `i` of a seed does not depend on the others, so that a difference can be made again alone.
+//! contents, PDB files, and by themselves jobs out of order and jobs for boxes. Request `i` of a seed does not depend on the others, so that a
+//! difference can be made again alone.
 
 use crate::{
     calls::{list, needs},
     job::{LIMIT, MAX_RESIDUES, NONE, RawAtom, RawJob, decode, fix_length},
-    jobs::{chaos, job, out_of_order},
+    jobs::{chaos, job, out_of_order, small},
     pdb_files,
     protocol::{BUILD, MOST, MOST_BYTES, PLAN, Request, TUBE, encode_words},
     rng::Rng,
+    tied::tied,
     tubes::triangles_of,
 };
 
@@ -288,6 +290,42 @@ pub fn order_request(seed: u64, index: u64) -> Request {
     }
 }
 
+/// The needs or more, or one output buffer a place short, the boxes before all.
+fn box_lengths(rng: &mut Rng, bytes: &[u8]) -> [u32; 8] {
+    let mut n = needed(rng, bytes);
+    let one = rng.below(6) as usize;
+    match rng.below(20) {
+        0..=10 => {}
+        11..=15 => n = n.map(|l| l + rng.pick(&[0, 0, 1, 2, 7])),
+        16 => n[5] += rng.between(1, 12),
+        17..=18 => n[5] = n[5].saturating_sub(1),
+        _ => n[one] = n[one].saturating_sub(1),
+    }
+    std::array::from_fn(|i| n[i].min(MOST[i] as u64) as u32)
+}
+
+/// A build, or now and then a plan, of a job with small tubes whose boxes have equal coordinates to choose from, or of an ordinary small one.
+pub fn box_request(seed: u64, index: u64) -> Request {
+    let mut rng = Rng::new(seed, index);
+    let rng = &mut rng;
+    let job = if rng.percent(75) {
+        tied(rng)
+    } else {
+        small(rng)
+    };
+    let bytes = job.bytes();
+    if rng.percent(5) {
+        return plan_of(rng, bytes);
+    }
+    let lengths = box_lengths(rng, &bytes);
+    Request {
+        call: BUILD,
+        lengths,
+        k: 0,
+        bytes,
+    }
+}
+
 /// Which requests are made.
 #[derive(Clone, Copy, Debug, PartialEq, Eq)]
 pub enum Kind {
@@ -298,6 +336,8 @@ pub enum Kind {
     Both,
     /// Calls 1 and 2, on atoms out of order.
     Orders,
+    /// Calls 1 and 2, on small tubes at which the earlier of equal coordinates shows.
+    Boxes,
 }
 
 impl Kind {
@@ -307,6 +347,7 @@ impl Kind {
             "files" => Some(Kind::Files),
             "both" => Some(Kind::Both),
             "orders" => Some(Kind::Orders),
+            "boxes" => Some(Kind::Boxes),
             _ => None,
         }
     }
@@ -316,6 +357,7 @@ impl Kind {
         match self {
             Kind::Files => file_request(seed, index),
             Kind::Orders => order_request(seed, index),
+            Kind::Boxes => box_request(seed, index),
             Kind::Both if index % 3 == 2 => file_request(seed, index),
             _ => job_request(seed, index),
         }

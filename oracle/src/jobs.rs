@@ -7,7 +7,7 @@ use crate::{
     tubes::MAX_VERTICES,
 };
 
-fn plus(a: [f64; 3], b: [f64; 3], s: f64) -> [f64; 3] {
+pub fn plus(a: [f64; 3], b: [f64; 3], s: f64) -> [f64; 3] {
     [a[0] + b[0] * s, a[1] + b[1] * s, a[2] + b[2] * s]
 }
 
@@ -16,7 +16,7 @@ fn thousandths(p: [f64; 3]) -> [f64; 3] {
     p.map(|x| (x * 1000.0).round() / 1000.0)
 }
 
-fn atom(serial: u32, role: u8, residue: u16, chain: u16, xyz: [f64; 3]) -> RawAtom {
+pub fn atom(serial: u32, role: u8, residue: u16, chain: u16, xyz: [f64; 3]) -> RawAtom {
     RawAtom {
         serial,
         role,
@@ -26,7 +26,7 @@ fn atom(serial: u32, role: u8, residue: u16, chain: u16, xyz: [f64; 3]) -> RawAt
     }
 }
 
-fn segment(kind: u8, start: u32, end: u32) -> RawSegment {
+pub fn segment(kind: u8, start: u32, end: u32) -> RawSegment {
     RawSegment { kind, start, end }
 }
 
@@ -393,6 +393,19 @@ fn crowd(rng: &mut Rng) -> RawJob {
             .push(segment(rng.below(3) as u8, 2 * start, 2 * end + 1));
     }
     job
+}
+
+/// An ordinary job of few residues.
+pub fn small(rng: &mut Rng) -> RawJob {
+    match rng.below(5) {
+        0..=1 => {
+            let residues = rng.between(2, 8);
+            protein(rng, residues)
+        }
+        2 => path(rng, 1.0),
+        3 => path(rng, 1e-9),
+        _ => chaos(rng),
+    }
 }
 
 /// Counts of 0 in one place or another, over what is otherwise a small job.

@@ -24,5 +24,6 @@ pub mod ribbon_mesh;
 pub mod rng;
 pub mod shrink;
 pub mod stand_ins;
+pub mod tied;
 pub mod tubes;
 pub mod wrong;

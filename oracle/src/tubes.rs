@@ -97,14 +97,16 @@ impl Tubes {
 /// the points alone. So the tests are strict: of -0 and +0 the earlier stays. The documents do not speak of NaN; by the same tests a later
 /// one is passed over, and one that is first stays for ever, which `f32::min` and `f32::max` would let go.
 pub fn bounds(mut points: impl Iterator<Item = [f32; 3]>) -> [f32; 6] {
+    // The mistake: an equal coordinate takes the place of the one before it.
+    let later = wrong(Mutation::BoxLaterOfEquals);
     let first = points.next().expect("a tube has vertices");
     let (mut least, mut greatest) = (first, first);
     for p in points {
         for a in 0..3 {
-            if p[a] < least[a] {
+            if p[a] < least[a] || later && p[a] == least[a] {
                 least[a] = p[a];
             }
-            if p[a] > greatest[a] {
+            if p[a] > greatest[a] || later && p[a] == greatest[a] {
                 greatest[a] = p[a];
             }
         }

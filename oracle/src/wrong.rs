@@ -37,9 +37,11 @@ mutations! {
     SumReordered "one sum of the spline is taken in another order",
     OneHelper "fallback_perp has one helper for all directions",
     TagAfterHalf "a tag turns after t = 0.5, not at it",
-    // Two mistakes about boxes are not here, since none of the generator's requests would show them. The later of equals: in 750,000 tubes of
-    // its jobs no box had -0 and +0 to choose from; `tests/boxes.rs` holds the fold, and has a made job that shows it. A box without the
-    // cap centres: on each axis a ring has a vertex not below its centre and one not above it, and stands before it, so no box would change.
+    // One mistake about boxes is not here, since no job is known that would show it: a box without the cap centres. As long as values are
+    // finite a ring has on each axis a vertex not below its centre and one not above it, and stands before it, so that no box would change;
+    // this is argued and not proved, and none did in 2,100,763 tubes looked at. The later of equals is caught by the requests of `Kind::Boxes`
+    // alone: in 800,000 tubes of the other jobs no box had -0 and +0 to choose from.
+    BoxLaterOfEquals "a box keeps the later of equal coordinates",
     BoxOfFirstRing "a box takes the first ring only",
     BoxOfAlphas "a box takes the C-alphas, as 01 had it",
     BoxOfNormals "a box takes the normals",

@@ -12,6 +12,7 @@ use oracle::{
     job::decode,
     jobs::job,
     rng::Rng,
+    tied::tied,
     tubes::MAX_VERTICES,
 };
 
@@ -57,8 +58,9 @@ fn check(c: Counts, b: &Buffers) {
 #[test]
 fn every_mesh_is_closed() {
     let mut tubes = 0;
-    for i in 0..3000 {
-        let job = job(&mut Rng::new(5, i));
+    for i in 0..4000 {
+        let rng = &mut Rng::new(5, i);
+        let job = if i < 3000 { job(rng) } else { tied(rng) };
         let bytes = job.bytes();
         if !decode(&bytes).is_ok_and(|j| list(&j).v < MAX_VERTICES / 20) {
             continue;
@@ -67,7 +69,7 @@ fn every_mesh_is_closed() {
         check(c, &b);
         tubes += c.k;
     }
-    assert!(tubes > 3000, "only {tubes} tubes");
+    assert!(tubes > 4500, "only {tubes} tubes");
 }
 
 #[test]

@@ -9,6 +9,7 @@ use oracle::{
     job::{NONE, RawAtom, RawJob, decode},
     jobs::job,
     rng::Rng,
+    tied::tied,
     tubes::MAX_VERTICES,
 };
 
@@ -210,8 +211,9 @@ fn the_page_gives_the_same_tubes() {
 #[test]
 fn the_page_gives_the_same_boxes() {
     let mut compared = 0;
-    for i in 0..4000 {
-        let job = job(&mut Rng::new(23, i));
+    let of_all_kinds = (0..4000).map(|i| (i, job(&mut Rng::new(23, i))));
+    let with_equals = (0..2000).map(|i| (i, tied(&mut Rng::new(23, i))));
+    for (i, job) in of_all_kinds.chain(with_equals) {
         // A coordinate is held against all others of its tube, so the largest jobs are left out.
         if !decode(&job.bytes()).is_ok_and(|j| list(&j).v < 10_000) {
             continue;
@@ -223,7 +225,7 @@ fn the_page_gives_the_same_boxes() {
         assert_eq!(got, expected, "job {i}");
         compared += got.len() / 6;
     }
-    assert!(compared > 8000, "only {compared} tubes");
+    assert!(compared > 11_000, "only {compared} tubes");
 }
 
 #[test]

@@ -39,23 +39,30 @@ fn folder(name: &str) -> PathBuf {
     folder
 }
 
-fn compare(program: &[&str], jobs: &str, out: &Path) -> Output {
+fn compare(kind: &str, program: &[&str], jobs: &str, out: &Path) -> Output {
     let out = out.to_str().unwrap();
-    let options = ["compare", "--jobs", jobs, "--seed", "3", "--out", out, "--"];
-    run(&[&options, program].concat(), &[])
+    let options = ["--kind", kind, "--jobs", jobs, "--seed", "3", "--out", out];
+    run(
+        &[&["compare"], &options[..], &["--"], program].concat(),
+        &[],
+    )
 }
 
 #[test]
 fn the_oracle_equals_itself() {
-    let output = compare(&[ORACLE, "answer"], "5000", &folder("itself"));
-    let text = String::from_utf8(output.stdout).unwrap();
-    assert!(output.status.success(), "{text}");
-    assert!(text.contains("all 5000 answers are equal"), "{text}");
+    for (kind, jobs) in [("both", "5000"), ("orders", "500"), ("boxes", "500")] {
+        let output = compare(kind, &[ORACLE, "answer"], jobs, &folder("itself"));
+        let text = String::from_utf8(output.stdout).unwrap();
+        assert!(output.status.success(), "{text}");
+        let all = format!("all {jobs} answers are equal");
+        assert!(text.contains(&all), "{text}");
+    }
 }
 
-/// What is written of the oracle with this mistake.
-fn difference_of(mistake: &str, folder: &Path) -> String {
-    let output = compare(&[ORACLE, "answer", "--wrong", mistake], "5000", folder);
+/// What is written of the oracle with this mistake, by requests of this kind.
+fn difference_of(kind: &str, mistake: &str, folder: &Path) -> String {
+    let wrong = [ORACLE, "answer", "--wrong", mistake];
+    let output = compare(kind, &wrong, "5000", folder);
     assert_eq!(output.status.code(), Some(1));
     let written: Vec<_> = fs::read_dir(folder).unwrap().collect();
     assert_eq!(written.len(), 1);
@@ -64,7 +71,7 @@ fn difference_of(mistake: &str, folder: &Path) -> String {
 
 #[test]
 fn a_wrong_reader_is_caught_and_its_file_shrunk() {
-    let text = difference_of("CalciumIsCa", &folder("wrong-reader"));
+    let text = difference_of("both", "CalciumIsCa", &folder("wrong-reader"));
     assert!(text.contains("first difference: lent bytes"), "{text}");
     // One line of 54 columns is enough, blank where it may be.
     assert!(
@@ -72,7 +79,7 @@ fn a_wrong_reader_is_caught_and_its_file_shrunk() {
         "{text}"
     );
     // A segment, two atoms of its start, and perhaps one of its end.
-    let text = difference_of("SegmentFromLastAtom", &folder("wrong-segment"));
+    let text = difference_of("both", "SegmentFromLastAtom", &folder("wrong-segment"));
     assert!(
         text.contains("line 3:") && !text.contains("line 5:"),
         "{text}"
@@ -99,7 +106,7 @@ fn a_file_read() {
 
 #[test]
 fn a_wrong_program_is_caught_and_its_job_shrunk() {
-    let text = difference_of("CutAtFive", &folder("wrong"));
+    let text = difference_of("both", "CutAtFive", &folder("wrong"));
     // Two atoms are enough to show a step of 5.
     assert!(text.contains("first difference"), "{text}");
     assert!(
@@ -110,9 +117,20 @@ fn a_wrong_program_is_caught_and_its_job_shrunk() {
 }
 
 #[test]
+fn a_wrong_box_is_caught_and_its_job_shrunk() {
+    let text = difference_of("boxes", "BoxLaterOfEquals", &folder("wrong-box"));
+    assert!(text.contains("first difference: boxes, place"), "{text}");
+    // Two C-alphas, and perhaps an oxygen each.
+    assert!(
+        text.contains("atom 1:") && !text.contains("atom 4:"),
+        "{text}"
+    );
+}
+
+#[test]
 fn a_program_that_ends_early_is_caught() {
     for program in [&["true"][..], &["echo", "no"]] {
-        let output = compare(program, "50", &folder("early"));
+        let output = compare("both", program, "50", &folder("early"));
         assert_eq!(output.status.code(), Some(1), "{program:?}");
     }
 }
