@@ -41,11 +41,13 @@ fn kinds(call: u8) -> std::ops::RangeInclusive<u32> {
     }
 }
 
-/// The bench cases of 01, then generated requests of every kind, then files.
+/// The bench cases of 01, then generated requests of every kind, then files, and last the job of equal coordinates. What is added stands at the
+/// end, so that the requests before it stay as they are.
 pub fn sample() -> Vec<Request> {
     let mut sample = cases::requests();
     keep(&mut sample, &[BUILD, PLAN, TUBE], job_request);
     keep(&mut sample, &[READ], file_request);
+    sample.push(cases::build_request(&cases::ties(), [1, 74, 144], 0));
     sample
 }
 
@@ -109,7 +111,8 @@ the oracle's answers in the same order. They were made by
 
 which always gives the same bytes: first the bench cases of 01 (`oracle/src/cases.rs`), then requests of the generator's seed {SEED}, kept until
 there are enough of each call and each kind of answer: meshes, refusals 1 to 11, plans, parts of a triangle buffer and empty parts; then PDB
-files, jobs and refusals 12, 13, 14 and 16 (a file that gets 15 has 16,385 residues).
+files, jobs and refusals 12, 13, 14 and 16 (a file that gets 15 has 16,385 residues); and last the job `ties` of `cases.rs`, whose box has equal
+coordinates to choose from, +0 and -0.
 The longest buffers lent are, in places (for files the lent job bytes count as positions): {lengths}; the longest bytes of a request {bytes}.
 The oracle's tests fail when it answers otherwise; the program `replay` runs them without it. The cosines and sines behind the meshes are those
 of `docs/ANGLES.md`.

@@ -1,4 +1,4 @@
-//! The recorded answers are what the oracle answers now, and hold every call and every kind of answer.
+//! The recorded answers are what the oracle answers now, hold every call and every kind of answer, and show which of equals a box keeps.
 
 use std::{collections::HashSet, fs, path::PathBuf};
 
@@ -6,6 +6,7 @@ use oracle::{
     angles,
     protocol::{BUILD, PLAN, READ, Request, TUBE, answer, encode_answer, read_answer},
     record,
+    wrong::{self, Mutation},
 };
 
 fn file(name: &str) -> Vec<u8> {
@@ -43,6 +44,16 @@ fn they_hold_every_kind_and_are_small() {
     wanted.extend([(TUBE, 0), (TUBE, 1)]);
     wanted.extend([0, 12, 13, 14, 16].map(|n| (READ, n)));
     assert_eq!(kinds, wanted);
+}
+
+#[test]
+fn the_last_one_shows_the_earlier_of_equals() {
+    let sample = record::sample();
+    let shows = |r: &Request| {
+        let later = Some(Mutation::BoxLaterOfEquals);
+        wrong::with(later, || answer(r)) != answer(r)
+    };
+    assert!(shows(&sample[sample.len() - 1]));
 }
 
 #[test]
