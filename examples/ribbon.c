@@ -46,6 +46,13 @@ static int end(int status) {
     return 1;
 }
 
+/* whether a box holds these vertices */
+static int holds(const float *box, const float *vertices, size_t count) {
+    for (size_t i = 0; i < 3 * count; i++)
+        if (vertices[i] < box[i % 3] || vertices[i] > box[3 + i % 3]) return 0;
+    return 1;
+}
+
 int main(void) {
     static uint8_t job[65536];
     size_t len = input(job, sizeof job), residues = len < 13 ? 0 : RIBBON_RESIDUES(job);
@@ -72,7 +79,11 @@ int main(void) {
     printf("tubes %zu vertices %zu triangles %zu\n", k, v, t);
     for (size_t i = 0; i < k; i++) {
         size_t start, n = ribbon_tube(tubes, 5 * k, triangles, 3 * t, i, &start);
-        printf("tube %zu: %zu corners from place %zu, residue %u on, x from %g to %g\n", i, n, start, tubes[5 * i + 1], boxes[6 * i], boxes[6 * i + 3]);
+        const uint32_t *tube = tubes + 5 * i;
+        const float *box = boxes + 6 * i;
+        if (!holds(box, positions + 3 * tube[3], 64 * tube[2] - 54)) return wrong("a vertex is outside its tube's box");
+        printf("tube %zu: %zu corners from place %zu, residue %u on, box %g %g %g to %g %g %g\n", i, n, start, tube[1], box[0], box[1], box[2], box[3], box[4],
+               box[5]);
     }
     if (v) printf("vertex 0 at %g %g %g, normal %g %g %g\n", positions[0], positions[1], positions[2], normals[0], normals[1], normals[2]);
     return end(0);
