@@ -38,7 +38,7 @@
  *   tubes      5 K words, for each tube: kind (enum ribbon_kind), first residue, residues n, first vertex, first triangle.
  *   boxes      6 K floats, for each tube: the least x, y, z of its vertices, the centres of its caps too, then the greatest. No vertex of a tube is outside its
  *              box, each of the six floats is a coordinate of one of them (of equals, as -0 and 0, the first), and where the boxes of two tubes, of one mesh or
- *              of two, are apart on an axis, so are their vertices. A NaN has never been seen: where a tube's first vertex had one, both floats of that axis would
+ *              of two, are apart on an axis, so are their vertices. No mesh so far has had a NaN: where a tube's first vertex had one, both floats of that axis would
  *              be NaN, and any other would be passed over.
  * The scratch is RIBBON_SCRATCH_WORDS(R) words and RIBBON_SCRATCH_FLOATS(R) floats, whatever they hold. Refusals 1 to 9 leave it as it was; after any other
  * answer these places are 0.
