@@ -1,5 +1,5 @@
 -- Laws of a tube's scratch: what is loaded, and what the shape reads of it. Assumes nothing.
-use Prim.Native.Nat.{ℕ, zero, suc, _+_, _-_, _*_, _≤_, _<_}
+use Prim.Native.Nat.{ℕ, zero, suc, _-_, _*_, _≤_, _<_}
 use mathlib.Core.Bool.{Bool, true, false, cond}
 use mathlib.Core.List.{List, [], _∷_, _++_}
 use mathlib.Core.Path.{_≡_, refl, _∙_, ap, fun-ext}
@@ -7,12 +7,13 @@ use native.Mathlib.Omega.{arith}
 use lib.ListN.{length, getD, take, drop, length-append, List·getD-eq-default}
 use lib.Seq.{take-at, drop-at}
 use lib.Dec.{eqb, ltb}
-use lib.Ieee.{Float, nan}
+use lib.Ieee.{Float}
 use borrow.Author.Tests.{eqb-false, ltb-true, ltb-false}
-use Rattle.lists.specs.Put.{put, upto}
-use Rattle.lists.proofs.Puts.{next, length-upto, put-all, upto-at}
+use Rattle.lists.specs.Put.{put}
+use Rattle.lists.proofs.Puts.{next, put-all}
 use Rattle.vectors.specs.declared.Vec3.{Vec3}
 use Rattle.vectors.specs.Vec.{vecAt, floats}
+use Rattle.vectors.proofs.Flat.{floats-at, length-floats}
 use Rattle.shape.specs.declared.Kind.{Kind}
 use Rattle.shape.specs.declared.Kind.the-variants.{Sheet}
 use Rattle.shape.specs.declared.Oxygen.the-variants.{At, Missing}
@@ -26,7 +27,7 @@ use Rattle.boxes.proofs.Laws.{bounds-box}
 use Rattle.rings.specs.Post.{Began}
 use Rattle.edges.specs.Tube.{vertexCount, tube}
 use Rattle.edges.proofs.Theorems.{vertex-count}
-use Rattle.mesh.specs.Mesh.{kindOf, spotOf, spotAt, spots, airAt, positionsBy, normalsBy, boxBy}
+use Rattle.mesh.specs.Mesh.{kindOf, spotOf, spots, airAt, positionsBy, normalsBy, boxBy}
 use Rattle.mesh.specs.Outs.{Outs, outs, writtenBy}
 
 pub kind-sheet : (k : ℕ) → (k ≡ 0 → ⊥) → (k ≡ 1 → ⊥) → Sheet ≡ kindOf k
@@ -42,17 +43,11 @@ spot-some place (suc a) h = refl
 
 pub length-spots : (place : ℕ → Vec3) (atoms : List ℕ) → length (spots place atoms) ≡ 3 * length atoms
 unfolding spots
-length-spots place atoms = length-upto (spotAt place atoms) 3 (length atoms) (λ k h. refl) ∙ omega arith
+length-spots place atoms = length-floats (λ (i : ℕ). spotOf place (getD atoms i 0)) (length atoms)
 
 pub spots-at : (place : ℕ → Vec3) (atoms : List ℕ) (i : ℕ) → i < length atoms → vecAt (spots place atoms) i ≡ spotOf place (getD atoms i 0)
-unfolding spots vecAt
-spots-at place atoms i h =
-    let one : (j : ℕ) → j < 3 → getD (upto (spotAt place atoms) (length atoms)) (i * 3 + j) nan ≡ getD (spotAt place atoms i) j nan
-    = λ j m. upto-at (spotAt place atoms) 3 (length atoms) i j nan (λ k. refl) h m in
-    let e0 : 3 * i ≡ i * 3 + 0 = omega arith in
-    let e1 : 3 * i + 1 ≡ i * 3 + 1 = omega arith in
-    let e2 : 3 * i + 2 ≡ i * 3 + 2 = omega arith in
-    rw (e1, e2, e0, one 0 (omega arith), one 1 (omega arith), one 2 (omega arith))
+unfolding spots
+spots-at place atoms i h = floats-at (λ (j : ℕ). spotOf place (getD atoms j 0)) (length atoms) i h
 
 -- what the shape reads as oxygens: those that the table names
 pub airs : (place : ℕ → Vec3) (atoms : List ℕ) → oxygenAt atoms (spots place atoms) ≡ airAt place atoms

@@ -5,9 +5,8 @@ use mathlib.Core.Bool.{cond}
 use lib.ListN.{length, getD}
 use lib.Dec.{eqb}
 use lib.Ieee.{Float}
-use Rattle.lists.specs.Put.{upto}
 use Rattle.vectors.specs.declared.Vec3.{Vec3}
-use Rattle.vectors.specs.Vec.{vzero, floats}
+use Rattle.vectors.specs.Vec.{vzero, floatsOf}
 use Rattle.shape.specs.declared.Kind.{Kind}
 use Rattle.shape.specs.declared.Kind.the-variants.{Coil, Helix, Sheet}
 use Rattle.shape.specs.declared.Oxygen.{Oxygen}
@@ -45,11 +44,8 @@ unfoldable pub spotOf : (ℕ → Vec3) → ℕ → Vec3
 spotOf place zero = vzero
 spotOf place (suc a) = place (suc a)
 
-abbrev pub spotAt : (ℕ → Vec3) → List ℕ → ℕ → List Float
-spotAt place atoms i = floats (spotOf place (getD atoms i 0))
-
 unfoldable pub spots : (ℕ → Vec3) → List ℕ → List Float
-spots place atoms = upto (spotAt place atoms) (length atoms)
+spots place atoms = floatsOf (λ (i : ℕ). spotOf place (getD atoms i 0)) (length atoms)
 
 -- 'An oxygen is either a position of three floats or missing'
 unfoldable pub airAt : (ℕ → Vec3) → List ℕ → ℕ → Oxygen

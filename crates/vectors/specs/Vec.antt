@@ -75,6 +75,10 @@ floats v = v .x ∷ v .y ∷ v .z ∷ []
 unfoldable pub vecAt : List Float → ℕ → Vec3
 vecAt l i = vec (getD l (3 * i) nan) (getD l (3 * i + 1) nan) (getD l (3 * i + 2) nan)
 
+-- the floats of n vectors, of which vector i is v i
+abbrev pub floatsOf : (ℕ → Vec3) → ℕ → List Float
+floatsOf v n = upto (λ (i : ℕ). floats (v i)) n
+
 -- 01: 'arrays of eight vectors', as floats, one vector after the other
 unfoldable pub eight : List Vec3 → List Float
-eight ps = upto (λ (k : ℕ). floats (getD ps k vpast)) 8
+eight ps = floatsOf (λ (k : ℕ). getD ps k vpast) 8

@@ -1,17 +1,18 @@
-use Prim.Native.Nat.{_≤_, _-_}
+use Prim.Native.Nat.{ℕ, _≤_, _-_}
 use mathlib.Core.Path.{_≡_, refl}
-use lib.ListN.{length}
+use lib.ListN.{length, getD}
 use native.Mathlib.Omega.{arith}
 use borrow.Author.Needs.{needs}
 use Rattle.lists.specs.Put.{put, upto}
 use Rattle.lists.proofs.Puts.{kept, turn}
 use Rattle.protein.specs.Places.{placeOf}
-use Rattle.mesh.specs.Mesh.{spotAt, spots}
+use Rattle.vectors.specs.Vec.{floats, floatsOf}
+use Rattle.mesh.specs.Mesh.{spotOf, spots}
 use Rattle.mesh.proofs.load.Statement.{statement}
 use Rattle.mesh.proofs.load.Tie as tie
 
 abbrev Inv-loop : tie.InvT-loop
-Inv-loop b h atoms course₀ at n i₀ course i = (i ≤ n) × (course ≡ put course₀ at (upto (spotAt (placeOf b h) atoms) i))
+Inv-loop b h atoms course₀ at n i₀ course i = (i ≤ n) × (course ≡ put course₀ at (floatsOf (λ (k : ℕ). spotOf (placeOf b h) (getD atoms k 0)) i))
 
 abbrev μ-loop : tie.MeasureT-loop
 μ-loop b h atoms course₀ at n i₀ course i = n - i
@@ -29,7 +30,7 @@ put-vec-requires c κs = omega (arith, kept _ _ _ (c .before .before .before .be
 loop-again : tie.Need-loop-again Inv-loop μ-loop
 loop-again c =
     let args = c .before .before .before .before .before .before .before .before .before .before .before .args in
-    (omega arith, turn (spotAt (placeOf (args .b .now) (args .h)) (args .atoms .now)) 3 (λ _. refl) _ _ _ (c .before .before .before .before .before .before .before .loop .i) (rw (c .before .before .before .spot .ensures) at (c .before .before .put-vec .ensures)) (c .before .before .before .before .before .before .before .loop .inv .1) (omega arith))
+    (omega arith, turn (λ (k : ℕ). floats (spotOf (placeOf (args .b .now) (args .h)) (getD (args .atoms .now) k 0))) 3 (λ _. refl) _ _ _ (c .before .before .before .before .before .before .before .loop .i) (rw (c .before .before .before .spot .ensures) at (c .before .before .put-vec .ensures)) (c .before .before .before .before .before .before .before .loop .inv .1) (omega arith))
 
 returns : tie.Need-returns Inv-loop μ-loop
 unfolding spots

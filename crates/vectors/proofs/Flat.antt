@@ -1,0 +1,62 @@
+-- Vectors of a flat list: after a write; of a list made vector by vector; and that two lists with the same vectors are the same.
+use mathlib.Core.Path.{_≡_, refl, sym, ap, _∙_}
+use mathlib.Core.List.{List}
+use Prim.Native.Nat.{ℕ, zero, suc, _+_, _*_, _/_, _%_, _<_, _≤_}
+use native.Mathlib.Omega.{arith}
+use native.Mathlib.Nat.{add-zero}
+use lib.ListN.{length, getD}
+use lib.Seq.{ext-getD}
+use lib.Ieee.{Float, nan}
+use Rattle.lists.specs.Put.{put}
+use Rattle.lists.proofs.Puts.{length-upto, getD-put-past, getD-put-before, getD-put-in, upto-at}
+use Rattle.vectors.specs.declared.Vec3.{Vec3}
+use Rattle.vectors.specs.Vec.{floats, vecAt, floatsOf}
+
+-- a vector past what was written is as it was, and so is one before it
+pub vec-past : (l : List Float) (a : ℕ) (xs : List Float) (j : ℕ) → a + length xs ≤ 3 * j → vecAt (put l a xs) j ≡ vecAt l j
+unfolding vecAt
+vec-past l a xs j h =
+    let at : (k : ℕ) → 3 * j ≤ k → getD (put l a xs) k nan ≡ getD l k nan = λ k hk. getD-put-past l a xs k nan (omega arith) in
+    rw (at (3 * j) (omega arith), at (3 * j + 1) (omega arith), at (3 * j + 2) (omega arith))
+
+pub vec-before : (l : List Float) (a : ℕ) (xs : List Float) (j : ℕ) → 3 * j + 3 ≤ a → vecAt (put l a xs) j ≡ vecAt l j
+unfolding vecAt
+vec-before l a xs j h =
+    let at : (k : ℕ) → k < a → getD (put l a xs) k nan ≡ getD l k nan = λ k hk. getD-put-before l a xs k nan hk in
+    rw (at (3 * j) (omega arith), at (3 * j + 1) (omega arith), at (3 * j + 2) (omega arith))
+
+-- a vector that was written is there
+pub vec-in : (l : List Float) (i : ℕ) (v : Vec3) → 3 * i + 3 ≤ length l → vecAt (put l (3 * i) (floats v)) i ≡ v
+unfolding vecAt
+vec-in l i v h =
+    let first : getD (put l (3 * i) (floats v)) (3 * i) nan ≡ v .x =
+    ap (λ (k : ℕ). getD (put l (3 * i) (floats v)) k nan) (sym (add-zero (3 * i))) ∙ getD-put-in l (3 * i) (floats v) 0 nan (omega arith) h in
+    rw (first, getD-put-in l (3 * i) (floats v) 1 nan (omega arith) h, getD-put-in l (3 * i) (floats v) 2 nan (omega arith) h)
+
+-- vector i of a list made vector by vector, and how long it is
+pub floats-at : (v : ℕ → Vec3) (n i : ℕ) → i < n → vecAt (floatsOf v n) i ≡ v i
+unfolding vecAt
+floats-at v n i h =
+    let at : (j k : ℕ) → j < 3 → i * 3 + j ≡ k → getD (floatsOf v n) k nan ≡ getD (floats (v i)) j nan =
+    λ j k hj e. ap (λ (m : ℕ). getD (floatsOf v n) m nan) (sym e) ∙ upto-at (λ (i : ℕ). floats (v i)) 3 n i j nan (λ _. refl) h hj in
+    rw (at 0 (3 * i) (omega arith) (omega arith), at 1 (3 * i + 1) (omega arith) (omega arith), at 2 (3 * i + 2) (omega arith) (omega arith))
+
+pub length-floats : (v : ℕ → Vec3) (n : ℕ) → length (floatsOf v n) ≡ 3 * n
+length-floats v n = omega (arith, length-upto (λ (i : ℕ). floats (v i)) 3 n (λ _ _. refl))
+
+-- a place of a list is a part of one of its vectors
+place : (a b : List Float) (i r : ℕ) → r < 3 → vecAt a i ≡ vecAt b i → getD a (3 * i + r) nan ≡ getD b (3 * i + r) nan
+unfolding vecAt
+place a b i zero h e = rw add-zero (ap (λ (v : Vec3). v .x) e)
+place a b i (suc zero) h e = ap (λ (v : Vec3). v .y) e
+place a b i (suc (suc zero)) h e = ap (λ (v : Vec3). v .z) e
+place a b i (suc (suc (suc r))) h e = absurd (omega arith)
+
+-- two lists of n vectors are the same where their vectors are
+pub by-vectors : (n : ℕ) (a b : List Float) → length a ≡ 3 * n → length b ≡ 3 * n → ((i : ℕ) → i < n → vecAt a i ≡ vecAt b i) → a ≡ b
+by-vectors n a b ha hb same =
+    ext-getD nan a b (ha ∙ sym hb)
+    (λ k h.
+    let e : 3 * (k / 3) + k % 3 ≡ k = omega arith in
+    let p = place a b (k / 3) (k % 3) (omega arith) (same (k / 3) (omega arith)) in
+    rw e at p)
