@@ -1,23 +1,24 @@
 -- Turns of the loops over a tube's residues, over plain lists and vectors.
 use mathlib.Core.Path.{_≡_, refl, sym, ap, _∙_}
 use mathlib.Core.List.{List, [], _++_, append-nil}
-use Prim.Native.Nat.{ℕ, zero, suc, _+_, _*_, _-_, _≤_}
+use Prim.Native.Nat.{ℕ, _+_, _*_, _-_, _≤_}
 use native.Mathlib.Omega.{arith}
-use native.Mathlib.Nat.{add-zero, add-suc}
 use native.Mathlib.Numerals.{add-one}
 use lib.ListN.{length, getD, take, drop, length-drop, drop-of-length-le}
 use lib.Seq.{getD-drop, take-at, drop-at, length-take-le}
 use lib.Ieee.{Float, nan}
 use Rattle.vectors.specs.declared.Vec3.{Vec3}
-use Rattle.vectors.specs.Vec.{vadd, floats, vecAt}
+use Rattle.vectors.specs.Vec.{vadd, floats, vecAt, floatsOf}
+use Rattle.vectors.proofs.Flat.{vec-past, length-floats}
 use Rattle.lists.specs.Put.{put, upto}
-use Rattle.lists.proofs.Puts.{turn, length-put, length-upto, getD-put-past, put-all, put-tail, take-put}
+use Rattle.lists.proofs.Puts.{turn, length-upto, put-all, put-tail, take-put}
 use Rattle.shape.specs.declared.Kind.{Kind}
 use Rattle.shape.specs.declared.Kind.the-variants.{Coil, Helix, Sheet}
 use Rattle.shape.specs.declared.Oxygen.{Oxygen}
-use Rattle.shape.specs.Guide.{agreeing, smoothGuide, smoothPosition}
-use Rattle.curve.specs.Smooth.{vectors, Smoothable, after, guidePiece, guidePass, positionPiece, positionPass, repeated, smoothGuides, smoothPositions}
-use Rattle.curve.specs.Residues.{oxygenAt, rawAt, signedAt, signedPiece, signed, sumOf, same, settled, guidesOf, pointsOf}
+use Rattle.shape.specs.Guide.{agreeing}
+use Rattle.smooth.specs.Pass.{vectors}
+use Rattle.smooth.proofs.Laws.{long-guides, long-positions, vectors-of}
+use Rattle.curve.specs.Residues.{oxygenAt, rawAt, signedAt, signed, sumOf, same, settled, guidesOf, pointsOf}
 use Rattle.lists.proofs.Any.{rest}
 
 pub whole : (f : ℕ → List Float) (n m : ℕ) (l : List Float) {b : List Float} → ((k : ℕ) → length (f k) ≡ 3)
@@ -28,12 +29,7 @@ whole f n m l h3 e h hm =
 -- a vector past what has been written is the old one
 pub still : (l : List Float) (a : ℕ) (f : ℕ → List Float) (i j : ℕ) {b : List Float} → ((k : ℕ) → length (f k) ≡ 3)
     → b ≡ put l a (upto f i) → a + 3 * i ≤ 3 * j → vecAt b j ≡ vecAt l j
-unfolding vecAt
-still l a f i j {b} h3 e h =
-    let w = length-upto f 3 i (λ k _. h3 k) in
-    let at : (k : ℕ) → 3 * j ≤ k → getD b k nan ≡ getD l k nan =
-    λ k hk. ap (λ (m : List Float). getD m k nan) e ∙ getD-put-past l a (upto f i) k nan (omega arith) in
-    rw (at (3 * j) (omega arith), at (3 * j + 1) (omega arith), at (3 * j + 2) (omega arith))
+still l a f i j h3 e h = ap (λ (m : List Float). vecAt m j) e ∙ vec-past l a (upto f i) j (omega (arith, length-upto f 3 i (λ k _. h3 k)))
 
 -- a vector of what is left from 3n on
 vec-drop : (l : List Float) (n j : ℕ) → vecAt (drop (3 * n) l) j ≡ vecAt l (n + j)
@@ -51,63 +47,17 @@ pub signed-step : (raw : ℕ → Vec3) (i : ℕ) {prev g v : Vec3} → prev ≡ 
 signed-step raw i ep eg ev = let e = next-signed raw i in cc
 
 pub signed-put : (raw : ℕ → Vec3) (l : List Float) (a i : ℕ) {b b′ : List Float} {prev : Vec3}
-    → prev ≡ signedAt raw i → b ≡ put l a (upto (signedPiece raw) i) → b′ ≡ put b (a + 3 * i) (floats prev) → b′ ≡ put l a (upto (signedPiece raw) (i + 1))
+    → prev ≡ signedAt raw i → b ≡ put l a (floatsOf (signedAt raw) i) → b′ ≡ put b (a + 3 * i) (floats prev) → b′ ≡ put l a (floatsOf (signedAt raw) (i + 1))
 signed-put raw l a i {b} ep e e′ =
-    turn (signedPiece raw) 3 (λ _. refl) l a (a + 3 * i) i (e′ ∙ ap (λ (u : Vec3). put b (a + 3 * i) (floats u)) ep) e (omega arith)
+    turn (λ (k : ℕ). floats (signedAt raw k)) 3 (λ _. refl) l a (a + 3 * i) i (e′ ∙ ap (λ (u : Vec3). put b (a + 3 * i) (floats u)) ep) e (omega arith)
 
 pub sum-step : (g : List Float) (i : ℕ) {v v′ w : Vec3} → v ≡ sumOf g i → w ≡ vecAt g i → v′ ≡ vadd v w → v′ ≡ sumOf g (i + 1)
 unfolding sumOf
 sum-step g i e ew e′ = rw add-one (cc)
 
-pub guide-step : (n : ℕ) (l : List Float) (i k : ℕ) {b b′ : List Float} {prev here next m : Vec3}
-    → b ≡ put l 0 (upto (guidePiece l n) i) → prev ≡ vecAt l (i - 1) → here ≡ vecAt b i → next ≡ vecAt b k
-    → k ≡ after n i → i ≤ k → m ≡ smoothGuide prev here next → b′ ≡ put b (3 * i) (floats m)
-    → (here ≡ vecAt l (i + 1 - 1)) × (b′ ≡ put l 0 (upto (guidePiece l n) (i + 1)))
-guide-step n l i k {b} {b′} {prev} {here} {next} {m} e ep eh en ek hk em e′ =
-    let fh : here ≡ vecAt l i = eh ∙ still l 0 (guidePiece l n) i i (λ _. refl) e (omega arith) in
-    let fn : next ≡ vecAt l k = en ∙ still l 0 (guidePiece l n) i k (λ _. refl) e (omega arith) in
-    let fm : m ≡ smoothGuide (vecAt l (i - 1)) (vecAt l i) (vecAt l (after n i)) = rw (em, ep, fh, fn, ek) in
-    (fh ∙ ap (vecAt l) (omega arith), turn (guidePiece l n) 3 (λ _. refl) l 0 (3 * i) i (e′ ∙ ap (λ (v : Vec3). put b (3 * i) (floats v)) fm) e (omega arith))
-
-pub point-step : (l : List Float) (i : ℕ) {b b′ : List Float} {prev here next m : Vec3} → b ≡ put l 3 (upto (positionPiece l) i)
-    → prev ≡ vecAt l i → here ≡ vecAt b (i + 1) → next ≡ vecAt b (i + 2) → m ≡ smoothPosition prev here next → b′ ≡ put b (3 * i + 3) (floats m)
-    → (here ≡ vecAt l (i + 1)) × (b′ ≡ put l 3 (upto (positionPiece l) (i + 1)))
-point-step l i {b} {b′} {prev} {here} {next} {m} e ep eh en em e′ =
-    let fh : here ≡ vecAt l (i + 1) = eh ∙ still l 3 (positionPiece l) i (i + 1) (λ _. refl) e (omega arith) in
-    let fn : next ≡ vecAt l (i + 2) = en ∙ still l 3 (positionPiece l) i (i + 2) (λ _. refl) e (omega arith) in
-    let fm : m ≡ smoothPosition (vecAt l i) (vecAt l (i + 1)) (vecAt l (i + 2)) = cc in
-    (fh, turn (positionPiece l) 3 (λ _. refl) l 3 (3 * i + 3) i (e′ ∙ ap (λ (v : Vec3). put b (3 * i + 3) (floats v)) fm) e (omega arith))
-
--- one pass more
-pub again : (f : List Float → List Float) (k : ℕ) (l : List Float) {p p′ : List Float} → p′ ≡ f p → p ≡ repeated f k l → p′ ≡ repeated f (k + 1) l
-unfolding repeated
-again f k l e′ e = e′ ∙ ap f e ∙ ap (λ (j : ℕ). repeated f j l) (sym (add-one k))
-
-pub length-guides : (n : ℕ) (l : List Float) → length (guidePass n l) ≡ 3 * n
-unfolding guidePass
-length-guides n l = omega (arith, length-upto (guidePiece l n) 3 n (λ _ _. refl))
-
-pub length-points : (n : ℕ) (l : List Float) → length (positionPass n l) ≡ length l
-unfolding positionPass
-length-points n l = length-put l 3 (upto (positionPiece l) (n - 2))
-
 pub length-same : (v : Vec3) (n : ℕ) → length (same v n) ≡ 3 * n
 unfolding same
-length-same v n = omega (arith, length-upto (λ (i : ℕ). floats v) 3 n (λ _ _. refl))
-
--- a passes and then b are a + b passes (02 §9), and so for each of the two smoothings
-pub repeated-add : (f : List Float → List Float) (a b : ℕ) (l : List Float) → repeated f b (repeated f a l) ≡ repeated f (a + b) l
-unfolding repeated
-repeated-add f a zero l = ap (λ (k : ℕ). repeated f k l) (sym (add-zero a))
-repeated-add f a (suc b) l = ap f (repeated-add f a b l) ∙ ap (λ (k : ℕ). repeated f k l) (sym (add-suc a b))
-
-pub guides-in-stages : (a b n : ℕ) (l : List Float) → smoothGuides b n (smoothGuides a n l) ≡ smoothGuides (a + b) n l
-unfolding smoothGuides
-guides-in-stages a b n l = repeated-add (guidePass n) a b l
-
-pub positions-in-stages : (a b n : ℕ) (l : List Float) → smoothPositions b n (smoothPositions a n l) ≡ smoothPositions (a + b) n l
-unfolding smoothPositions
-positions-in-stages a b n l = repeated-add (positionPass n) a b l
+length-same v n = length-floats (λ (i : ℕ). v) n
 
 -- a residue whose oxygen has not been written over has the same raw guide
 pub raw-still : (flags : List ℕ) (n : ℕ) (l : List Float) (f : ℕ → List Float) (i j : ℕ) {b : List Float} → ((k : ℕ) → length (f k) ≡ 3)
@@ -120,23 +70,17 @@ raw-still flags n l f i j {b} h3 e h =
     rw (et, ev)
 
 -- the guides over the oxygens, whole
-pub signed-whole : (flags : List ℕ) (n m : ℕ) (l : List Float) {b : List Float} → b ≡ put l (3 * n) (upto (signedPiece (rawAt (take (3 * n) l) (oxygenAt flags (drop (3 * n) l)) n)) m)
+pub signed-whole : (flags : List ℕ) (n m : ℕ) (l : List Float) {b : List Float} → b ≡ put l (3 * n) (floatsOf (signedAt (rawAt (take (3 * n) l) (oxygenAt flags (drop (3 * n) l)) n)) m)
     → length l ≡ 6 * n → m ≡ n → b ≡ take (3 * n) l ++ signed (take (3 * n) l) (oxygenAt flags (drop (3 * n) l)) n
 unfolding signed
 signed-whole flags n m l e h hm =
     let raw = rawAt (take (3 * n) l) (oxygenAt flags (drop (3 * n) l)) n in
-    put-tail l (upto (signedPiece raw) n) (3 * n) (e ∙ ap (λ (k : ℕ). put l (3 * n) (upto (signedPiece raw) k)) hm)
-    (omega (arith, length-upto (signedPiece raw) 3 n (λ _ _. refl)))
-
-pub vectors-of : (l : List Float) (n : ℕ) → length l ≡ 3 * n → vectors l ≡ n
-vectors-of l n h = rw h (omega arith)
-
-pub smoothable : (l : List Float) (n : ℕ) → length l ≡ 3 * n → 2 ≤ n → Smoothable l
-smoothable l n h b = record { whole = h ∙ ap (λ (k : ℕ). 3 * k) (sym (vectors-of l n h)); two = rw (vectors-of l n h) b }
+    put-tail l (floatsOf (signedAt raw) n) (3 * n) (e ∙ ap (λ (k : ℕ). put l (3 * n) (floatsOf (signedAt raw) k)) hm)
+    (omega (arith, length-floats (signedAt raw) n))
 
 pub length-signed : (ca : List Float) (o : ℕ → Oxygen) (n : ℕ) → length (signed ca o n) ≡ 3 * n
 unfolding signed
-length-signed ca o n = omega (arith, length-upto (signedPiece (rawAt ca o n)) 3 n (λ _ _. refl))
+length-signed ca o n = length-floats (signedAt (rawAt ca o n)) n
 
 -- a course s of n vectors and then others, whose first part, or the rest of it, was lent
 module _ (n : ℕ) (ca sg : List Float) {s : List Float} (e : s ≡ ca ++ sg) (ha : length ca ≡ 3 * n) where
@@ -183,13 +127,13 @@ module _ (flags : List ℕ) (l : List Float) (n : ℕ) (h : length l ≡ 6 * n) 
 
 -- both lists of a course have n vectors
 pub length-guides-of : (kind : Kind) (ca : List Float) (o : ℕ → Oxygen) (n : ℕ) → length (guidesOf kind ca o n) ≡ 3 * n
-unfolding guidesOf settled smoothGuides repeated
-length-guides-of Coil ca o n = length-guides n _
-length-guides-of Helix ca o n = length-guides n _
+unfolding guidesOf settled
+length-guides-of Coil ca o n = long-guides 1 n (signed ca o n) (length-signed ca o n)
+length-guides-of Helix ca o n = long-guides 3 n (signed ca o n) (length-signed ca o n)
 length-guides-of Sheet ca o n = length-same _ n
 
-pub length-points-of : (kind : Kind) (ca : List Float) (n : ℕ) → length (pointsOf kind ca n) ≡ length ca
-unfolding pointsOf smoothPositions repeated
-length-points-of Coil ca n = refl
-length-points-of Helix ca n = refl
-length-points-of Sheet ca n = length-points n _ ∙ length-points n _ ∙ length-points n ca
+pub length-points-of : (kind : Kind) (ca : List Float) (n : ℕ) → length ca ≡ 3 * n → length (pointsOf kind ca n) ≡ 3 * n
+unfolding pointsOf
+length-points-of Coil ca n h = h
+length-points-of Helix ca n h = h
+length-points-of Sheet ca n h = long-positions 3 n ca h

@@ -7,14 +7,13 @@ use lib.Dec.{eqb}
 use lib.ListN.{getD}
 use lib.Ieee.{Float}
 use Rattle.vectors.specs.declared.Vec3.{Vec3}
-use Rattle.vectors.specs.Vec.{vadd, normalised, vzero, floats, vecAt}
-use Rattle.lists.specs.Put.{upto}
+use Rattle.vectors.specs.Vec.{vadd, normalised, vzero, vecAt, floatsOf}
 use Rattle.shape.specs.declared.Kind.{Kind}
 use Rattle.shape.specs.declared.Kind.the-variants.{Coil, Helix, Sheet}
 use Rattle.shape.specs.declared.Oxygen.{Oxygen}
 use Rattle.shape.specs.declared.Oxygen.the-variants.{At, Missing}
 use Rattle.shape.specs.Guide.{rawGuide, tangentOf, agreeing}
-use Rattle.curve.specs.Smooth.{after, smoothGuides, smoothPositions}
+use Rattle.smooth.specs.Pass.{after, smoothGuides, smoothPositions}
 
 -- an oxygen out of flat lists: a flag, 0 where it is missing, and three floats
 unfoldable pub oxygenAt : List ℕ → List Float → ℕ → Oxygen
@@ -33,11 +32,8 @@ unfoldable pub signedAt : (ℕ → Vec3) → ℕ → Vec3
 signedAt raw zero = raw zero
 signedAt raw (suc i) = agreeing (signedAt raw i) (raw (suc i))
 
-abbrev pub signedPiece : (ℕ → Vec3) → ℕ → List Float
-signedPiece raw i = floats (signedAt raw i)
-
 unfoldable pub signed : List Float → (ℕ → Oxygen) → ℕ → List Float
-signed ca o n = upto (signedPiece (rawAt ca o n)) n
+signed ca o n = floatsOf (signedAt (rawAt ca o n)) n
 
 -- the sum of the first k vectors, from the zero vector on
 unfoldable pub sumOf : List Float → ℕ → Vec3
@@ -46,7 +42,7 @@ sumOf g (suc k) = vadd (sumOf g k) (vecAt g k)
 
 -- one vector n times
 unfoldable pub same : Vec3 → ℕ → List Float
-same v n = upto (λ (i : ℕ). floats v) n
+same v n = floatsOf (λ (i : ℕ). v) n
 
 -- 01: 'helix guides 3, coil guides 1; a sheet uses one averaged guide'
 unfoldable pub settled : Kind → ℕ → List Float → List Float

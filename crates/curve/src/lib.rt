@@ -1,7 +1,6 @@
 // The course of a tube: guides and spline points of its residues, and the frame at each sample.
 pub mod residues;
 pub mod samples;
-pub mod smooth;
 
 use vectors::Vec3;
 

@@ -1,13 +1,13 @@
 // Guides and spline points of a tube's n residues, in one lent slice of 6n floats: on entry n C-alphas and then n oxygens, on exit n
 // spline points and then n guides.
-use crate::smooth::after;
-use crate::smooth::smooth_guides;
-use crate::smooth::smooth_positions;
 use shape::Kind;
 use shape::Oxygen;
 use shape::guides::agreeing;
 use shape::guides::raw_guide;
 use shape::guides::tangent_of;
+use smooth::after;
+use smooth::guides::smooth_guides;
+use smooth::positions::smooth_positions;
 use vectors::Vec3;
 use vectors::get_vec;
 use vectors::put_vec;
@@ -15,7 +15,7 @@ ghost use mathlib.Core.Path.{_≡_};
 ghost use mathlib.Core.List.{_++_};
 ghost use Prim.Native.Nat.{_+_, _*_, _-_, _<_, _≤_};
 ghost use lib.ListN.{length, take, drop};
-ghost use Rattle.curve.specs.Smooth.{vectors, Smoothable};
+ghost use Rattle.smooth.specs.Pass.{vectors, Smoothable};
 ghost use Rattle.curve.specs.Residues.{oxygenAt, tangentAt, rawAt, signed, sumOf, same, settled, guidesOf, pointsOf};
 
 fn oxygen_at(flags: &[u32], at: &[f32], i: usize) -> Oxygen

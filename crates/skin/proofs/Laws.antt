@@ -141,7 +141,7 @@ whole kind p g n first sp ep sn en st et {p₀ = p₀} {n₀ = n₀} {t₀ = t�
 module _ (kind : Kind) (flags : List ℕ) (l : List Float) (n first : ℕ) (r : Residues flags l n first) {s : List Float}
     (e : s ≡ pointsOf kind (take (3 * n) l) n ++ guidesOf kind (take (3 * n) l) (oxygenAt flags (drop (3 * n) l)) n) where
   points : length (pointsOf kind (take (3 * n) l) n) ≡ 3 * n
-  points = length-points-of kind (take (3 * n) l) n ∙ length-take-le (3 * n) l (omega (arith, r .both))
+  points = length-points-of kind (take (3 * n) l) n (length-take-le (3 * n) l (omega (arith, r .both)))
 
   front : take (3 * n) s ≡ pointsOf kind (take (3 * n) l) n
   front = ap (take (3 * n)) e ∙ take-at _ _ (3 * n) points

@@ -17,7 +17,7 @@ use Rattle.shape.specs.declared.Oxygen.the-variants.{At, Missing}
 use Rattle.shape.specs.Spline.{bend, twist, catmullRom, catmullRomTangent}
 use Rattle.shape.specs.Guide.{fallbackPerp, across, upright, computeGuide, rawGuide, orUp, tangentOf, directed, agreeing, weighted, smoothGuide, smoothPosition, between}
 use Rattle.shape.specs.Ring.{cosBits, sinBits, cosAt, sinAt, halfSizes, inArrow, arrow, profileOf, steep, spokeAt, spokesOf, pointOn, normalOn, ringOver, crossSection}
-use Rattle.curve.specs.Smooth.{guidePass, positionPass, repeated, smoothGuides, smoothPositions}
+use Rattle.smooth.specs.Pass.{guidePass, positionPass, repeated, smoothGuides, smoothPositions}
 use Rattle.curve.specs.Residues.{tangentAt, rawAt, signedAt, signed, sumOf, same, settled, guidesOf, pointsOf}
 use Rattle.curve.specs.Samples.{spanOf, spanAt, paramAt, frameOf, frameAt, ringAt}
 use Rattle.skin.specs.Tube.{ordered, ringPositions, ringNormals, startNormal, endNormal, skinPositions, skinNormals}

@@ -21,7 +21,7 @@ use Rattle.edges.specs.Tube.{rings, vertices, triangles, ring, next, cap, band,
 use Rattle.shape.specs.Spline.{bend, twist, catmullRom, catmullRomTangent}
 use Rattle.shape.specs.Guide as guide
 use Rattle.shape.specs.Ring as shape
-use Rattle.curve.specs.Smooth.{guidePass, positionPass, repeated, smoothGuides, smoothPositions}
+use Rattle.smooth.specs.Pass.{guidePass, positionPass, repeated, smoothGuides, smoothPositions}
 use Rattle.curve.specs.Residues.{tangentAt, rawAt, signedAt, signed, sumOf, same, settled, guidesOf, pointsOf}
 use Rattle.curve.specs.Samples.{spanOf, spanAt, paramAt, frameOf, frameAt, ringAt, tagAt}
 use Rattle.skin.specs.Tube as skin

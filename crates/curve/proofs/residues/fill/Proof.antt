@@ -4,14 +4,14 @@ use Prim.Native.Nat.{ℕ, _-_, _≤_}
 use native.Mathlib.Omega.{arith}
 use Rattle.lists.specs.Put.{put, upto}
 use Rattle.lists.proofs.Puts.{turn, kept}
-use Rattle.vectors.specs.Vec.{floats}
+use Rattle.vectors.specs.Vec.{floatsOf}
 use Rattle.curve.specs.Residues.{same}
 use Rattle.curve.proofs.Laws.{whole}
 use Rattle.curve.proofs.residues.fill.Statement.{statement}
 use Rattle.curve.proofs.residues.fill.Tie as tie
 
 abbrev Inv-loop : tie.InvT-loop
-Inv-loop g₀ n v i₀ g i = (i ≤ n) × (g ≡ put g₀ 0 (upto (λ (j : ℕ). floats v) i))
+Inv-loop g₀ n v i₀ g i = (i ≤ n) × (g ≡ put g₀ 0 (floatsOf (λ (j : ℕ). v) i))
 
 abbrev μ-loop : tie.MeasureT-loop
 μ-loop g₀ n v i₀ g i = n - i

@@ -3,7 +3,8 @@ use denote.Ref.{now}
 use Prim.Native.Nat.{_*_}
 use lib.ListN.{take, drop}
 use Rattle.curve.specs.Residues.{oxygenAt, guidesOf}
-use Rattle.curve.proofs.Laws.{length-laid, smoothable, laid-points}
+use Rattle.smooth.proofs.Laws.{smoothable}
+use Rattle.curve.proofs.Laws.{length-laid, laid-points}
 use borrow.Author.Needs.{needs}
 use Rattle.curve.proofs.residues.lay_course.Statement.{statement}
 use Rattle.curve.proofs.residues.lay_course.Tie as tie

@@ -5,13 +5,14 @@ use native.Mathlib.Omega.{arith}
 use lib.ListN.{take, drop}
 use Rattle.lists.specs.Put.{put, upto}
 use Rattle.lists.proofs.Puts.{kept}
-use Rattle.curve.specs.Residues.{oxygenAt, rawAt, signedAt, signedPiece}
+use Rattle.vectors.specs.Vec.{floatsOf}
+use Rattle.curve.specs.Residues.{oxygenAt, rawAt, signedAt}
 use Rattle.curve.proofs.Laws.{raw-still, signed-put, signed-step, signed-whole}
 use Rattle.curve.proofs.residues.signed_guides.Statement.{statement}
 use Rattle.curve.proofs.residues.signed_guides.Tie as tie
 
 abbrev Inv-loop : tie.InvT-loop
-Inv-loop flags course₀ n prev₀ i₀ course prev i = (i + 1 ≤ n) × (prev ≡ signedAt (rawAt (take (3 * n) course₀) (oxygenAt flags (drop (3 * n) course₀)) n) i) × (course ≡ put course₀ (3 * n) (upto (signedPiece (rawAt (take (3 * n) course₀) (oxygenAt flags (drop (3 * n) course₀)) n)) i))
+Inv-loop flags course₀ n prev₀ i₀ course prev i = (i + 1 ≤ n) × (prev ≡ signedAt (rawAt (take (3 * n) course₀) (oxygenAt flags (drop (3 * n) course₀)) n) i) × (course ≡ put course₀ (3 * n) (floatsOf (signedAt (rawAt (take (3 * n) course₀) (oxygenAt flags (drop (3 * n) course₀)) n)) i))
 
 abbrev μ-loop : tie.MeasureT-loop
 μ-loop flags course₀ n prev₀ i₀ course prev i = n - i
