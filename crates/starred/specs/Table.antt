@@ -4,7 +4,7 @@ use mathlib.Core.List.{List, [], _∷_, _++_}
 use lib.ListN.{replicate}
 use Rattle.starred.specs.Jobs.{empty, oneResidue, twoResidues, sixResidues, backwards, lone}
 use Rattle.starred.specs.Tests.{helix, coil, roomFor, Case, written, list, totals, words, built, refused, unplanned, counts, rings, corners, tags}
-use Rattle.starred.specs.Tests.{half, firstVertex, box, boxes, cut, kept, roots, narrows}
+use Rattle.starred.specs.Tests.{half, firstVertex, box, boxes, positions, guides, cut, kept, roots, narrows}
 
 unfoldable pub starred : List Case
 unfolding empty oneResidue sixResidues
@@ -78,6 +78,15 @@ others =
     (0 ∷ 0 ∷ 0x80000000 ∷ 0x40400000 ∷ 0x3F800000 ∷ 0x80000000 ∷ [])
     -- 02 §2, 'A box now takes the vertices of its tube': of the two residues at (0,0,0) and (4,0,0), from (0,-0.25,-0.25) to (4,0.25,0.25)
     ∷ boxes twoResidues (0 ∷ 0xBE800000 ∷ 0xBE800000 ∷ 0x40800000 ∷ 0x3E800000 ∷ 0x3E800000 ∷ [])
+    -- 02 §3, 'the previous neighbour's old value', of positions (0,0,0), (4,0,0), (4,4,0), (8,4,0): a pass leaves (3,1,0) and (5,3,0) between the ends
+    ∷ positions 1 (0 ∷ 0 ∷ 0 ∷ 0x40800000 ∷ 0 ∷ 0 ∷ 0x40800000 ∷ 0x40800000 ∷ 0 ∷ 0x41000000 ∷ 0x40800000 ∷ 0 ∷ [])
+    (0 ∷ 0 ∷ 0 ∷ 0x40400000 ∷ 0x3F800000 ∷ 0 ∷ 0x40A00000 ∷ 0x40400000 ∷ 0 ∷ 0x41000000 ∷ 0x40800000 ∷ 0 ∷ [])
+    -- and of guides x, y, -x: an end is its own neighbour, and y stays, since x + 2y - x is 2y
+    ∷ guides 1 (0x3F800000 ∷ 0 ∷ 0 ∷ 0 ∷ 0x3F800000 ∷ 0 ∷ 0xBF800000 ∷ 0 ∷ 0 ∷ [])
+    (0x3F72DCE8 ∷ 0x3EA1E89B ∷ 0 ∷ 0 ∷ 0x3F800000 ∷ 0 ∷ 0xBF72DCE8 ∷ 0x3EA1E89B ∷ 0 ∷ [])
+    -- of guides x, -x, x the middle one has the sum 0, whose length is below 1e-8, and stays
+    ∷ guides 1 (0x3F800000 ∷ 0 ∷ 0 ∷ 0xBF800000 ∷ 0 ∷ 0 ∷ 0x3F800000 ∷ 0 ∷ 0 ∷ [])
+    (0x3F800000 ∷ 0 ∷ 0 ∷ 0xBF800000 ∷ 0 ∷ 0 ∷ 0x3F800000 ∷ 0 ∷ 0 ∷ [])
     -- the tubes of the six residues stand one after the other
     ∷ words sixResidues 6 0 (1 ∷ 2 ∷ 2 ∷ 0 ∷ 0 ∷ [])
     ∷ words sixResidues 6 1 (0 ∷ 0 ∷ 3 ∷ 74 ∷ 144 ∷ [])

@@ -18,6 +18,7 @@ use Rattle.shape.specs.Ring.{profileOf}
 use Rattle.protein.specs.Places.{far}
 use Rattle.protein.specs.Protein.{Protein, proteinOf}
 use Rattle.protein.specs.declared.Head.{Head}
+use Rattle.smooth.specs.Pass.{vectors, smoothGuides, smoothPositions}
 use Rattle.curve.specs.Samples.{spanAt, paramAt}
 use Rattle.job.specs.Check.{check}
 use Rattle.job.specs.Refusals.{numberOf, carried}
@@ -35,7 +36,7 @@ use Rattle.promises.specs.declared.Built.{Built}
 use Rattle.promises.specs.declared.Built.the-variants.{Mesh, NoMesh}
 use Rattle.promises.specs.declared.Planned.{Planned}
 use Rattle.promises.specs.declared.Planned.the-variants.{Plan, NoPlan}
-use Rattle.starred.specs.Opened.{opensFloats, opensCorners, opensTubes, opensSkin, opensMesh}
+use Rattle.starred.specs.Opened.{opensFloats, opensCorners, opensTubes, opensCourse, opensSkin, opensMesh}
 
 -- ---- a job
 
@@ -191,6 +192,17 @@ unfoldable pub boxesAre : List ℕ → List ℕ → Bool
 unfolding sameList along foremost foremostOf boxOf boxBy tubeBox meshBoxes jobTubes opensMesh
 boxesAre s l = ifFine (check s) (λ h. sameList (map (toBits binary32) (meshBoxes (proteinOf s h) (jobTubes s h))) l)
 
+-- ---- smoothing
+
+-- 'ends fixed', 02 §3 'Results .. stay': so many passes over a flat list of positions, or of guides, by its f32 bits, leave these bits
+unfoldable pub positionsAre : ℕ → List ℕ → List ℕ → Bool
+unfolding sameList opensCourse
+positionsAre passes old new = sameList (map (toBits binary32) (smoothPositions passes (vectors (map lit old)) (map lit old))) new
+
+unfoldable pub guidesAre : ℕ → List ℕ → List ℕ → Bool
+unfolding sameList opensCourse
+guidesAre passes old new = sameList (map (toBits binary32) (smoothGuides passes (vectors (map lit old)) (map lit old))) new
+
 -- ---- floats
 
 -- 'Step (3,4,0) is not cut; a step of f32 bits 40A00001 along x is': from (0,0,0) to these bits
@@ -225,12 +237,13 @@ pub data Case : Type 0 where
   half : ℕ → ℕ → ℕ → Case
   firstVertex : List ℕ → ℕ → ℕ → Case
   box boxes : List ℕ → List ℕ → Case
+  positions guides : ℕ → List ℕ → List ℕ → Case
   cut kept : ℕ → ℕ → ℕ → Case
   roots narrows : ℕ → ℕ → Case
 
 unfoldable pub caseHolds : Case → Bool
 unfolding
-    isWritten tubesAre totalsAre wordsAre builds refuses refusesPlan countsAre ringsAre cornersAre tagsAre halfIs firstVertexIs boxIs boxesAre isCut rootIs narrowedIs
+    isWritten tubesAre totalsAre wordsAre builds refuses refusesPlan countsAre ringsAre cornersAre tagsAre halfIs firstVertexIs boxIs boxesAre positionsAre guidesAre isCut rootIs narrowedIs
 caseHolds (written s n front) = isWritten s n front
 caseHolds (list s us) = tubesAre s us
 caseHolds (totals s r l) = totalsAre s r l
@@ -246,6 +259,8 @@ caseHolds (half n s b) = halfIs n s b
 caseHolds (firstVertex s z w) = firstVertexIs s z w
 caseHolds (box l six) = boxIs l six
 caseHolds (boxes s l) = boxesAre s l
+caseHolds (positions passes old new) = positionsAre passes old new
+caseHolds (guides passes old new) = guidesAre passes old new
 caseHolds (cut x y z) = isCut x y z
 caseHolds (kept x y z) = not (isCut x y z)
 caseHolds (roots b r) = rootIs b r
