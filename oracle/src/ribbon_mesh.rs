@@ -130,8 +130,12 @@ fn smooth_guides(guides: &[Vec3F32], passes: usize) -> Vec<Vec3F32> {
     let mut g = guides.to_vec();
     for _ in 0..passes {
         let prev = g.clone();
+        // oracle: or the one before has its new value; asked once a pass, since the bench times this function.
+        let new_before = wrong(Mutation::NewGuideNeighbour);
         for i in 0..n {
             let a = if i > 0 { prev[i - 1] } else { prev[i] };
+            // oracle: with the mistake the new one.
+            let a = if new_before && i > 0 { g[i - 1] } else { a };
             let c = if i < n - 1 { prev[i + 1] } else { prev[i] };
             let sum = a + prev[i] * 2.0 + c;
             let len = sum.magnitude();
@@ -158,8 +162,14 @@ fn smooth_positions(positions: &[Vec3F32], passes: usize) -> Vec<Vec3F32> {
             p[0] = (prev[0] + prev[0] * 2.0 + prev[1]) * 0.25;
             p[n - 1] = (prev[n - 2] + prev[n - 1] * 2.0 + prev[n - 1]) * 0.25;
         }
+        // oracle: or the one before has its new value; asked once a pass, since the bench times this function.
+        let new_before = wrong(Mutation::NewPositionNeighbour);
         for i in 1..n - 1 {
             p[i] = (prev[i - 1] + prev[i] * 2.0 + prev[i + 1]) * 0.25;
+            // oracle: with the mistake the new one.
+            if new_before {
+                p[i] = (p[i - 1] + prev[i] * 2.0 + prev[i + 1]) * 0.25;
+            }
         }
     }
     p
@@ -817,3 +827,7 @@ pub fn build_ribbon_mesh(
 
     (tubes, Mesh { vertices, indices })
 }
+
+// oracle: tests of what is private here.
+#[cfg(test)]
+mod smoothing;

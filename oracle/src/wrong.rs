@@ -34,6 +34,8 @@ mutations! {
     OtherChainNeighbour "a coil run gains a neighbour of another chain",
     NoChainHidden "a coil residue with no chain is hidden",
     SheetEndsSmoothed "a sheet's end positions are smoothed too",
+    NewGuideNeighbour "a guide is smoothed with the new value of the one before it",
+    NewPositionNeighbour "a sheet's position is smoothed with the new value of the one before it",
     SumReordered "one sum of the spline is taken in another order",
     OneHelper "fallback_perp has one helper for all directions",
     TagAfterHalf "a tag turns after t = 0.5, not at it",
