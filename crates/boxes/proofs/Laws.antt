@@ -2,14 +2,14 @@
 use mathlib.Core.Path.{_≡_, refl, sym, ap, ap₂, _∙_}
 use mathlib.Core.Bool.{Bool, true, false, cond}
 use mathlib.Core.List.{List, [], _∷_, _++_}
-use Prim.Native.Nat.{ℕ, zero, suc, _+_, _*_, _/_, _<_}
+use Prim.Native.Nat.{ℕ, suc, _+_, _*_, _/_, _<_}
 use native.Mathlib.Numerals.{add-one}
 use native.Mathlib.Omega.{arith}
 use lib.ListN.{length, getD, length-append, List·getD-append}
 use lib.Seq.{getD-append-add}
 use lib.Ieee.{Float, nan, lt}
 use Rattle.lists.specs.Put.{upto}
-use Rattle.lists.proofs.Puts.{length-upto, upto-more}
+use Rattle.lists.proofs.Puts.{length-upto, upto-more, upto-same}
 use Rattle.vectors.specs.declared.Vec3.{Vec3}
 use Rattle.vectors.specs.Vec.{floats, vecAt}
 use Rattle.boxes.specs.declared.Bounds.{Bounds}
@@ -17,11 +17,6 @@ use Rattle.boxes.specs.Box.{along, foremost, foremostOf, more, boxOf}
 use Rattle.boxes.specs.Bounds.{cornerBy, grownBy, boundsOf}
 
 -- ---- the coordinates on an axis
-
-upto-same : {A : Type 0} (f g : ℕ → List A) (n : ℕ) → ((k : ℕ) → k < n → f k ≡ g k) → upto f n ≡ upto g n
-unfolding upto
-upto-same f g zero e = refl
-upto-same f g (suc n) e = ap₂ _++_ (upto-same f g n (λ k h. e k (omega arith))) (e n (omega arith))
 
 -- a list of m vertices has m of them
 pub third : (m : ℕ) {n : ℕ} → n ≡ 3 * m → n / 3 ≡ m

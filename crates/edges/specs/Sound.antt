@@ -64,7 +64,7 @@ pub record Sound (o v t : ℕ) (l : List ℕ) : Type 0 where
   pub paired : EdgesPaired l
   pub used : VerticesUsed o v l
 
--- a part of a mesh, as a tube is one: 'each triangle's corners lie in its own tube' (02 §4). It has t triangles, over the vertices from o up to v
+-- a part of a mesh, as a tube is one: t triangles, over the vertices from o up to v
 pub record MeshPart (o v t : ℕ) (l : List ℕ) : Type 0 where
   pub size : length l ≡ 3 * t
   pub within : CornersIn o v l

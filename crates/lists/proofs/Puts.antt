@@ -187,6 +187,12 @@ upto-at f w (suc n) i j d hw l m =
     within : (i n w j : ℕ) → i < n → j < w → i * w + j < n * w
     within i n w j b m = lt-of-lt-of-le (let e : suc i * w ≡ i * w + w = suc-mul i w in omega arith) (mul-le-mul-right w b)
 
+-- pieces that are the same
+pub upto-same : {A : Type 0} (f g : ℕ → List A) (n : ℕ) → ((k : ℕ) → k < n → f k ≡ g k) → upto f n ≡ upto g n
+unfolding upto
+upto-same f g zero e = refl
+upto-same f g (suc n) e = ap₂ _++_ (upto-same f g n (λ k h. e k (omega arith))) (e n (omega arith))
+
 -- as many pieces as f gives, and then c more
 pub upto-more : {A : Type 0} (f g : ℕ → List A) (k c : ℕ) → ((j : ℕ) → g j ≡ f (k + j)) → upto f k ++ upto g c ≡ upto f (k + c)
 unfolding upto

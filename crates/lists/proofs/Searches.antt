@@ -1,4 +1,4 @@
--- Laws of `first` and `last`: of any search below n. Assumes nothing.
+-- Laws of `first`, `last` and `every`: of any search below n. Assumes nothing.
 use Prim.Native.Nat.{ℕ, zero, suc, _+_, _<_, _≤_}
 use mathlib.Core.Bool.{Bool, true, false, cond}
 use mathlib.Core.Path.{_≡_, refl, sym, ap, _∙_, subst}
@@ -6,8 +6,8 @@ use mathlib.Core.Logic.{⊎-elim}
 use native.Mathlib.Nat.{eq-or-lt-of-le, le-of-suc-le-suc}
 use native.Mathlib.Numerals.{add-one}
 use native.Mathlib.Omega.{arith}
-use Rattle.lists.specs.Search.{IsFirst, IsLast, None, orElse, first, last}
-use Rattle.lists.proofs.Bools.{clash}
+use Rattle.lists.specs.Search.{IsFirst, IsLast, None, orElse, first, last, every}
+use Rattle.lists.proofs.Bools.{clash, and-both}
 
 -- ---- the first number below n that a test takes
 -- where none is taken it is 0
@@ -211,3 +211,40 @@ pub last-none : (t : ℕ → Bool) (n : ℕ) → None t n → last t n ≡ 0
 unfolding last
 last-none t zero h = refl
 last-none t (suc n) h = rw (h n (omega arith), last-none t n (λ k l. h k (omega arith)))
+
+-- ---- every number below n
+-- a turn of a loop that tests them
+pub every-none : (t : ℕ → Bool) → every t 0 ≡ true
+unfolding every
+every-none t = refl
+
+pub every-more : (t : ℕ → Bool) (n : ℕ) → every t n ≡ true → t n ≡ true → every t (n + 1) ≡ true
+unfolding every
+every-more t n e h = rw (add-one, e, h)
+
+-- true exactly where each is taken
+pub every-takes : (t : ℕ → Bool) (n i : ℕ) → every t n ≡ true → i < n → t i ≡ true
+unfolding every
+every-takes t zero i e l = absurd (omega arith)
+every-takes t (suc n) i e l =
+    let b = and-both (every t n) (t n) e in
+    ⊎-elim (λ q. subst (λ (k : ℕ). t k ≡ true) (sym q) (b .1)) (λ m. every-takes t n i (b .0) m) (eq-or-lt-of-le (le-of-suc-le-suc l))
+
+pub takes-every : (t : ℕ → Bool) (n : ℕ) → ((i : ℕ) → i < n → t i ≡ true) → every t n ≡ true
+unfolding every
+takes-every t zero h = refl
+takes-every t (suc n) h = rw (takes-every t n (λ i l. h i (omega arith)), h n (omega arith))
+
+-- one that is not taken
+pub every-lost : (t : ℕ → Bool) (n i : ℕ) → i < n → t i ≡ false → every t n ≡ false
+every-lost t n i l e = go (every t n) refl
+  where
+    go : (b : Bool) → every t n ≡ b → every t n ≡ false
+    go true q = clash (every-takes t n i q l) e
+    go false q = q
+
+-- two tests that agree below n
+pub every-same : (t u : ℕ → Bool) (n : ℕ) → ((i : ℕ) → i < n → t i ≡ u i) → every t n ≡ every u n
+unfolding every
+every-same t u zero h = refl
+every-same t u (suc n) h = rw (every-same t u n (λ i l. h i (omega arith)), h n (omega arith))

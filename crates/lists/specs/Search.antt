@@ -2,7 +2,7 @@
 -- What they mean is said by `IsFirst`, `IsLast` and `None`: they are one more than i exactly where i is the first, or the last, and 0 exactly where
 -- there is none (`first-is`, `is-first`, `first-none`, `first-false`, `last-is`, `is-last`, `last-none`, `last-false` of proofs/Searches).
 use Prim.Native.Nat.{ℕ, zero, suc, _<_}
-use mathlib.Core.Bool.{Bool, true, false, cond}
+use mathlib.Core.Bool.{Bool, true, false, cond, _&&_}
 use mathlib.Core.Path.{_≡_}
 
 -- i is the first number below n that the test takes: it is taken, and none before it is
@@ -35,3 +35,8 @@ last t (suc n) = cond (t n) (suc n) (last t n)
 unfoldable pub first : (ℕ → Bool) → ℕ → ℕ
 first t zero = zero
 first t (suc n) = orElse (first t n) (cond (t n) (suc n) zero)
+
+-- the test takes every number below n (`every-takes` and `takes-every` of proofs/Searches: it is true exactly where each is taken)
+unfoldable pub every : (ℕ → Bool) → ℕ → Bool
+every t zero = true
+every t (suc n) = every t n && t n

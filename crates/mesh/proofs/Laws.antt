@@ -28,7 +28,8 @@ use Rattle.rings.specs.Post.{Began}
 use Rattle.edges.specs.Tube.{vertexCount, tube}
 use Rattle.edges.proofs.Theorems.{vertex-count}
 use Rattle.mesh.specs.Mesh.{kindOf, spotOf, spots, airAt, positionsBy, normalsBy, boxBy}
-use Rattle.mesh.specs.Outs.{Outs, outs, writtenBy}
+use Rattle.buffers.specs.Outs.{Outs, outs}
+use Rattle.mesh.specs.Outs.{writtenBy}
 
 pub kind-sheet : (k : ℕ) → (k ≡ 0 → ⊥) → (k ≡ 1 → ⊥) → Sheet ≡ kindOf k
 unfolding kindOf

@@ -10,7 +10,8 @@ ghost use lib.ListN.{length};
 ghost use Rattle.lists.specs.Put.{put};
 ghost use Rattle.protein.specs.Layout.{Whole};
 ghost use Rattle.protein.specs.Places.{placeOf};
-ghost use Rattle.mesh.specs.Outs.{Room, lends, held, holds, writtenBy, Atoms};
+ghost use Rattle.buffers.specs.Outs.{Room, lends, held, holds};
+ghost use Rattle.mesh.specs.Outs.{writtenBy, Atoms};
 ghost use Rattle.mesh.specs.Mesh.{kindOf, spotOf, spots};
 ghost use Rattle.edges.specs.Tube.{vertexCount, triangleCount};
 

@@ -11,8 +11,8 @@ use Rattle.job.specs.Refusals.{numberOf}
 use Rattle.job.specs.declared.Refusal.{Refusal}
 use Rattle.job.specs.declared.Refusal.the-variants.{NoScratch, TooManyVertices, NoRoom}
 use Rattle.mesh.specs.Mesh.{vertexSum, triangleSum}
-use Rattle.mesh.specs.Outs.{Outs}
-use Rattle.room.specs.declared.Counts.{Counts}
+use Rattle.buffers.specs.Outs.{Outs}
+use Rattle.buffers.specs.declared.Counts.{Counts}
 use Rattle.room.specs.Room.{Scratch, Buffers, lent, shortScratch, cleared}
 use Rattle.promises.specs.declared.Built.{Built}
 use Rattle.promises.specs.declared.Built.the-variants.{Mesh, NoMesh}

@@ -11,8 +11,8 @@ use Rattle.boxes.proofs.Standing.{Boxed, Touched}
 use Rattle.protein.specs.Protein.{Protein}
 use Rattle.tubes.specs.Tubes.{Tube}
 use Rattle.mesh.specs.Mesh.{sizeOf, boxBy, tubePositions, tubeBox, tubeWords}
-use Rattle.mesh.specs.Outs.{Outs}
-use Rattle.room.specs.declared.Counts.{Counts}
+use Rattle.buffers.specs.Outs.{Outs}
+use Rattle.buffers.specs.declared.Counts.{Counts}
 use Rattle.room.specs.Room.{Buffers}
 use Rattle.promises.specs.declared.Built.the-variants.{Mesh}
 use Rattle.promises.specs.Calls.{Builds}

@@ -19,11 +19,12 @@ use Rattle.job.proofs.Laws.{check-whole}
 use Rattle.lists.proofs.Bools.{or-by-left, or-by-rest, or-cases, or-none}
 use Rattle.tubes.specs.Tubes.{Tube}
 use Rattle.mesh.specs.Mesh.{vertexSum, triangleSum}
-use Rattle.mesh.specs.Outs.{Outs}
+use Rattle.buffers.specs.Outs.{Outs, sizesOf, tight}
+use Rattle.buffers.proofs.Laws.{roomy}
 use Rattle.walk.specs.declared.Five.{Five}
-use Rattle.room.specs.declared.Counts.{Counts}
-use Rattle.room.specs.Room.{Lent, Scratch, Buffers, lent, shortScratch, tooMany, tight, cleared, scratchPast}
-use Rattle.room.proofs.Laws.{long-words, long-floats, roomy}
+use Rattle.buffers.specs.declared.Counts.{Counts}
+use Rattle.room.specs.Room.{Lent, Scratch, Buffers, lent, shortScratch, tooMany, cleared, scratchPast}
+use Rattle.room.proofs.Laws.{long-words, long-floats}
 use Rattle.promises.specs.declared.Built.{Built}
 use Rattle.promises.specs.declared.Built.the-variants.{Mesh, NoMesh}
 use Rattle.promises.specs.declared.Planned.the-variants.{Plan, NoPlan}
@@ -138,7 +139,7 @@ module _ (b : Buffers) (c : Counts) where
   abbrev o : Outs
   o = b .outs
 
-  pub tight-shorter : tight c (lent b) ≡ true → Shorter (b .outs) c
+  pub tight-shorter : tight c (sizesOf (b .outs)) ≡ true → Shorter (b .outs) c
   unfolding tight
   tight-shorter e =
       ⊎-elim (λ p. inl (ltb-true (length (o .positions)) (3 * c .vertices) p)) (λ e1. inr (⊎-elim (λ p. inl (ltb-true (length (o .normals)) (3 * c .vertices) p)) (λ e2.
@@ -148,7 +149,7 @@ module _ (b : Buffers) (c : Counts) where
       (or-cases (ltb (length (o .tags)) (c .vertices)) _ e2))) (or-cases (ltb (length (o .normals)) (3 * c .vertices)) _ e1)))
       (or-cases (ltb (length (o .positions)) (3 * c .vertices)) _ e)
 
-  pub shorter-tight : Shorter (b .outs) c → tight c (lent b) ≡ true
+  pub shorter-tight : Shorter (b .outs) c → tight c (sizesOf (b .outs)) ≡ true
   unfolding tight
   shorter-tight h =
       ⊎-elim (λ p. or-by-left _ _ (lt-ltb (length (o .positions)) (3 * c .vertices) p)) (λ h1. or-by-rest (ltb (length (o .positions)) (3 * c .vertices)) _
@@ -157,16 +158,16 @@ module _ (b : Buffers) (c : Counts) where
       (⊎-elim (λ p. or-by-left _ _ (lt-ltb (length (o .triangles)) (3 * c .triangles) p)) (λ h4. or-by-rest (ltb (length (o .triangles)) (3 * c .triangles)) _
       (⊎-elim (λ p. or-by-left _ _ (lt-ltb (length (o .tubes)) (5 * c .tubes) p)) (λ h5. or-by-rest (ltb (length (o .tubes)) (5 * c .tubes)) _ (lt-ltb (length (o .boxes)) (6 * c .tubes) h5)) h4)) h3)) h2)) h1)) h
 
-  pub not-tight : (Shorter (b .outs) c → ⊥) → tight c (lent b) ≡ false
-  not-tight never = go (tight c (lent b)) refl
+  pub not-tight : (Shorter (b .outs) c → ⊥) → tight c (sizesOf (b .outs)) ≡ false
+  not-tight never = go (tight c (sizesOf (b .outs))) refl
     where
-      go : (x : Bool) → tight c (lent b) ≡ x → tight c (lent b) ≡ false
+      go : (x : Bool) → tight c (sizesOf (b .outs)) ≡ x → tight c (sizesOf (b .outs)) ≡ false
       go true e = absurd (never (tight-shorter e))
       go false e = e
 
   -- room is what is not too short
-  pub room-is : tight c (lent b) ≡ false → RoomFor (b .outs) c
-  room-is e = roomy c (lent b) (b .outs) refl refl refl refl refl refl e
+  pub room-is : tight c (sizesOf (b .outs)) ≡ false → RoomFor (b .outs) c
+  room-is e = roomy c (b .outs) e
 
   pub room-not : RoomFor (b .outs) c → Shorter (b .outs) c → ⊥
   room-not R =
@@ -174,9 +175,9 @@ module _ (b : Buffers) (c : Counts) where
       (⊎-elim (λ p. omega (arith, R .triangles)) (⊎-elim (λ p. omega (arith, R .tubes)) (λ p. omega (arith, R .boxes))))))
 
   pub room-or : RoomFor (b .outs) c ⊎ Shorter (b .outs) c
-  room-or = go (tight c (lent b)) refl
+  room-or = go (tight c (sizesOf (b .outs))) refl
     where
-      go : (x : Bool) → tight c (lent b) ≡ x → RoomFor (b .outs) c ⊎ Shorter (b .outs) c
+      go : (x : Bool) → tight c (sizesOf (b .outs)) ≡ x → RoomFor (b .outs) c ⊎ Shorter (b .outs) c
       go true e = inr (tight-shorter e)
       go false e = inl (room-is e)
 
@@ -208,12 +209,12 @@ module _ (s : List ℕ) (p : Passes s) (b : Buffers) where
   unfolding buildChecks
   at-ten e m = build-passed s p (lent b) ∙ rw (e, m)
 
-  pub at-eleven : short ≡ false → tooMany us ≡ false → tight (countsOf us) (lent b) ≡ true
+  pub at-eleven : short ≡ false → tooMany us ≡ false → tight (countsOf us) (sizesOf (b .outs)) ≡ true
       → buildAnswer s (lent b) ≡ NoMesh (NoRoom (length us) (vertexSum us) (triangleSum us))
   unfolding buildChecks
   at-eleven e m t = build-passed s p (lent b) ∙ rw (e, m, t)
 
-  pub at-mesh : short ≡ false → tooMany us ≡ false → tight (countsOf us) (lent b) ≡ false → buildAnswer s (lent b) ≡ Mesh (countsOf us)
+  pub at-mesh : short ≡ false → tooMany us ≡ false → tight (countsOf us) (sizesOf (b .outs)) ≡ false → buildAnswer s (lent b) ≡ Mesh (countsOf us)
   unfolding buildChecks
   at-mesh e m t = build-passed s p (lent b) ∙ rw (e, m, t)
 
@@ -224,7 +225,7 @@ pub data Exit (s : List ℕ) (b : Buffers) (r : Built) : Type 0 where
   ten : Passes s → Enough s (b .scratch) → 1048576 < vertexSum (tubesIn s) → r ≡ NoMesh TooManyVertices → Exit s b r
   eleven : Buildable s (b .scratch) → Shorter (b .outs) (countsOf (tubesIn s))
       → r ≡ NoMesh (NoRoom (length (tubesIn s)) (vertexSum (tubesIn s)) (triangleSum (tubesIn s))) → Exit s b r
-  mesh : Buildable s (b .scratch) → tight (countsOf (tubesIn s)) (lent b) ≡ false → r ≡ Mesh (countsOf (tubesIn s)) → Exit s b r
+  mesh : Buildable s (b .scratch) → tight (countsOf (tubesIn s)) (sizesOf (b .outs)) ≡ false → r ≡ Mesh (countsOf (tubesIn s)) → Exit s b r
 
 many : (us : List Tube) → tooMany us ≡ true → 1048576 < vertexSum us
 unfolding tooMany
@@ -236,7 +237,7 @@ exit s b r e = ⊎-elim passed (λ q. early (q .0) (q .1) (e ∙ build-refused s
     passed : Passes s → Exit s b r
     passed p = by-nine (shortScratch (headOf s) (length (b .scratch .words)) (length (b .scratch .floats))) refl
       where
-        by-eleven : (x : Bool) → tight (countsOf (tubesIn s)) (lent b) ≡ x → shortScratch (headOf s) (length (b .scratch .words)) (length (b .scratch .floats)) ≡ false
+        by-eleven : (x : Bool) → tight (countsOf (tubesIn s)) (sizesOf (b .outs)) ≡ x → shortScratch (headOf s) (length (b .scratch .words)) (length (b .scratch .floats)) ≡ false
             → tooMany (tubesIn s) ≡ false → Exit s b r
         by-eleven true t f m =
             eleven (record { passes = p; scratch = enough s (b .scratch) f; limit = few (tubesIn s) m }) (tight-shorter b (countsOf (tubesIn s)) t) (e ∙ at-eleven s p b f m t)
@@ -244,7 +245,7 @@ exit s b r e = ⊎-elim passed (λ q. early (q .0) (q .1) (e ∙ build-refused s
 
         by-ten : (x : Bool) → tooMany (tubesIn s) ≡ x → shortScratch (headOf s) (length (b .scratch .words)) (length (b .scratch .floats)) ≡ false → Exit s b r
         by-ten true m f = ten p (enough s (b .scratch) f) (many (tubesIn s) m) (e ∙ at-ten s p b f m)
-        by-ten false m f = by-eleven (tight (countsOf (tubesIn s)) (lent b)) refl f m
+        by-ten false m f = by-eleven (tight (countsOf (tubesIn s)) (sizesOf (b .outs))) refl f m
 
         by-nine : (x : Bool) → shortScratch (headOf s) (length (b .scratch .words)) (length (b .scratch .floats)) ≡ x → Exit s b r
         by-nine true f = nine p f (e ∙ at-nine s p b f)

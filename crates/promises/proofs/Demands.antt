@@ -18,7 +18,7 @@ use Rattle.job.specs.declared.Refusal.the-variants.{NoScratch, TooManyVertices,
 use Rattle.tubes.specs.Tubes.{Tube}
 use Rattle.mesh.specs.Mesh.{tubeTriangles, vertexSum, triangleSum}
 use Rattle.walk.specs.declared.Five.{Five}
-use Rattle.room.specs.declared.Counts.{Counts}
+use Rattle.buffers.specs.declared.Counts.{Counts}
 use Rattle.room.specs.Room.{Scratch, Buffers, lent, noWords, cleared}
 use Rattle.tube_call.specs.Part.{Tubed}
 use Rattle.tube_call.proofs.Demands as tube

@@ -15,7 +15,7 @@ use Rattle.boxes.proofs.Standing.{Boxed, Touched}
 use Rattle.edges.specs.Tube.{vertexCount}
 use Rattle.tubes.specs.Tubes.{Tube}
 use Rattle.mesh.specs.Mesh.{sizeOf, vertexSum}
-use Rattle.room.specs.declared.Counts.{Counts}
+use Rattle.buffers.specs.declared.Counts.{Counts}
 use Rattle.room.specs.Room.{Buffers}
 use Rattle.promises.specs.declared.Built.the-variants.{Mesh}
 use Rattle.promises.specs.Calls.{Builds}

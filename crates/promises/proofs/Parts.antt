@@ -14,23 +14,23 @@ use Rattle.edges.proofs.Theorems.{tube-sound, mesh-sound, ribbon-counts, vertex
 use Rattle.protein.specs.Protein.{Protein}
 use Rattle.tubes.specs.Tubes.{Tube}
 use Rattle.mesh.specs.Mesh.{sizeOf, tubePositions, tubeNormals, tubeTags, tubeTriangles, tubeWords, tubeBox, vertexSum, triangleSum, meshPositions, meshNormals, meshTags, meshTriangles, meshWords, meshBoxes}
-use Rattle.mesh.specs.Outs.{Outs}
-use Rattle.room.specs.Room.{Buffers, lent, tight}
-use Rattle.room.proofs.Laws.{roomy}
+use Rattle.buffers.specs.Outs.{Outs, sizesOf, tight}
+use Rattle.buffers.proofs.Laws.{roomy}
+use Rattle.room.specs.Room.{Buffers}
 use Rattle.tube_theorems.specs.Listing.{Every}
 use Rattle.tube_call.specs.Part.{tubePart}
 use Rattle.tube_call.proofs.Laws.{part-in}
 use Rattle.promises.specs.Calls.{countsOf, wordsAt, filled, fiveWords}
 use Rattle.promises.specs.Meshes.{HoldsMesh, SameMesh, TubeAt, Stands, TubeStands, verticesOf, trianglesOf}
 use Rattle.promises.proofs.Tubes.{AllLong, length-positions, length-normals, length-tags, length-triangles, length-words, length-box}
-use Rattle.promises.proofs.Meshes.{length-mesh-positions, length-mesh-normals, length-mesh-tags, length-mesh-triangles, length-mesh-words, length-mesh-boxes, split-positions, split-normals, split-tags, split-triangles, split-words, split-boxes, sizesOf, triangles-closed, vertices-closed, triangle-sum-closed}
+use Rattle.promises.proofs.Meshes.{length-mesh-positions, length-mesh-normals, length-mesh-tags, length-mesh-triangles, length-mesh-words, length-mesh-boxes, split-positions, split-normals, split-tags, split-triangles, split-words, split-boxes, tubeSizes, triangles-closed, vertices-closed, triangle-sum-closed}
 
 -- ---- the fronts
 
-pub holds : (P : Protein) (us : List Tube) (b : Buffers) → AllLong us → tight (countsOf us) (lent b) ≡ false → HoldsMesh P us (b .outs) (filled P us (b .outs))
+pub holds : (P : Protein) (us : List Tube) (b : Buffers) → AllLong us → tight (countsOf us) (sizesOf (b .outs)) ≡ false → HoldsMesh P us (b .outs) (filled P us (b .outs))
 unfolding filled
 holds P us b long t =
-    let R = roomy (countsOf us) (lent b) (b .outs) refl refl refl refl refl refl t in
+    let R = roomy (countsOf us) (b .outs) t in
     record {
       positions = put-front _ _ _ (length-mesh-positions P us long) (R .positions);
       normals = put-front _ _ _ (length-mesh-normals P us long) (R .normals);
@@ -59,7 +59,7 @@ pub front-closed : (P : Protein) (us : List Tube) (o o' : Outs) → HoldsMesh P 
 front-closed P us o o' H =
     let e : take (3 * triangleSum us) (o' .triangles) ≡ meshTriangles 0 us =
     ap (take (3 * triangleSum us)) (H .triangles) ∙ take-at (meshTriangles 0 us) _ (3 * triangleSum us) (length-mesh-triangles 0 us) in
-    rw e (rw (triangles-closed 0 us) (rw (vertices-closed us, triangle-sum-closed us, zero-add) at (mesh-sound 8 8 0 (sizesOf us) (omega arith))))
+    rw e (rw (triangles-closed 0 us) (rw (vertices-closed us, triangle-sum-closed us, zero-add) at (mesh-sound 8 8 0 (tubeSizes us) (omega arith))))
 
 -- ---- a part in the middle
 

@@ -13,7 +13,7 @@ use Rattle.job.specs.declared.Checked.the-variants.{Refused}
 use Rattle.job.specs.declared.Refusal.{Refusal}
 use Rattle.job.specs.declared.Refusal.the-variants.{NoScratch, TooManyVertices}
 use Rattle.walk.specs.declared.Five.{Five}
-use Rattle.room.specs.declared.Counts.{Counts}
+use Rattle.buffers.specs.declared.Counts.{Counts}
 use Rattle.room.specs.Room.{Scratch, shortScratch, tooMany, cleared}
 use Rattle.promises.specs.declared.Planned.{Planned}
 use Rattle.promises.specs.declared.Planned.the-variants.{Plan, NoPlan}

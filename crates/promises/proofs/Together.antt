@@ -12,7 +12,7 @@ use Rattle.job.proofs.Laws.{check-whole}
 use Rattle.tubes.specs.Tubes.{Tube}
 use Rattle.mesh.specs.Mesh.{sizeOf, tubeTriangles, tubeWords, vertexSum, triangleSum}
 use Rattle.walk.specs.declared.Five.{Five}
-use Rattle.room.specs.declared.Counts.{Counts}
+use Rattle.buffers.specs.declared.Counts.{Counts}
 use Rattle.room.specs.Room.{Scratch, Buffers, noWords}
 use Rattle.tube_call.specs.Part.{Tubed}
 use Rattle.promises.specs.declared.Built.{Built}

@@ -8,7 +8,7 @@ use lib.ListN.{length, getD}
 use Rattle.job.specs.Refusals.{numberOf, refusalNumbers}
 use Rattle.job.specs.declared.Refusal.{Refusal}
 use Rattle.job.proofs.Told.{of, back, not-zero}
-use Rattle.room.specs.declared.Counts.{Counts}
+use Rattle.buffers.specs.declared.Counts.{Counts}
 use Rattle.room.specs.Room.{Scratch, Buffers, lent}
 use Rattle.walk.specs.declared.Five.{Five}
 use Rattle.promises.specs.declared.Built.{Built}

@@ -4,7 +4,7 @@ use mathlib.Core.Bool.{true, false}
 use mathlib.Core.Path.{_≡_}
 use lib.ListN.{getD}
 use lib.Ieee.{Float, nan, lt, eq, le, isNan}
-use Rattle.mesh.specs.Outs.{Outs}
+use Rattle.buffers.specs.Outs.{Outs}
 use Rattle.promises.specs.Meshes.{verticesFor}
 
 -- 'kind, first residue, residues n, first vertex, first triangle': of tube k, n and the first vertex

@@ -18,10 +18,10 @@ use Rattle.tubes.specs.List.{tubeList}
 use Rattle.protein.specs.Protein.{Protein, proteinOf}
 use Rattle.mesh.specs.Mesh.{firstOf, sizeOf, vertexSum, triangleSum, meshPositions, meshNormals, meshTags, meshTriangles, meshWords, meshBoxes}
 use Rattle.edges.specs.Tube.{vertexCount, triangleCount}
-use Rattle.mesh.specs.Outs.{Outs}
+use Rattle.buffers.specs.Outs.{Outs, tight}
 use Rattle.walk.specs.declared.Five.{Five}
-use Rattle.room.specs.declared.Counts.{Counts}
-use Rattle.room.specs.Room.{Lent, Scratch, Buffers, lent, noWords, shortScratch, tooMany, tight, scratchPast}
+use Rattle.buffers.specs.declared.Counts.{Counts}
+use Rattle.room.specs.Room.{Lent, Scratch, Buffers, lent, noWords, shortScratch, tooMany, scratchPast}
 use Rattle.promises.specs.declared.Built.{Built}
 use Rattle.promises.specs.declared.Built.the-variants.{Mesh, NoMesh}
 use Rattle.promises.specs.declared.Planned.{Planned}
@@ -61,7 +61,7 @@ unfoldable pub buildChecks : Head → List Tube → Lent → Built
 buildChecks h us l =
     cond (shortScratch h (l .words) (l .floats)) (NoMesh NoScratch)
     (cond (tooMany us) (NoMesh TooManyVertices)
-    (cond (tight (countsOf us) l) (NoMesh (NoRoom (length us) (vertexSum us) (triangleSum us)))
+    (cond (tight (countsOf us) (l .outs)) (NoMesh (NoRoom (length us) (vertexSum us) (triangleSum us)))
     (Mesh (countsOf us))))
 
 -- the answer of build: of the job's bytes and of what is lent

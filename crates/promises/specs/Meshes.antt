@@ -11,8 +11,8 @@ use Rattle.job.specs.Check.{check}
 use Rattle.job.specs.declared.Checked.the-variants.{Fine}
 use Rattle.tubes.specs.Tubes.{Tube}
 use Rattle.mesh.specs.Mesh.{sizeOf, tubePositions, tubeNormals, tubeTags, tubeTriangles, tubeWords, tubeBox, vertexSum, triangleSum, meshPositions, meshNormals, meshTags, meshTriangles, meshWords, meshBoxes}
-use Rattle.mesh.specs.Outs.{Outs, Room}
-use Rattle.room.specs.declared.Counts.{Counts}
+use Rattle.buffers.specs.Outs.{Outs, Room}
+use Rattle.buffers.specs.declared.Counts.{Counts}
 use Rattle.room.specs.Room.{Scratch, Buffers}
 use Rattle.promises.specs.Calls.{jobTubes}
 

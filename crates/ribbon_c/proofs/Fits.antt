@@ -16,7 +16,7 @@ use Rattle.pdb_reader.proofs.Demands.{read-determined, buffer-passes, size-belo
 use Rattle.tubes.specs.Tubes.{Tube}
 use Rattle.mesh.specs.Mesh.{vertexSum, triangleSum}
 use Rattle.walk.specs.declared.Five.{Five}
-use Rattle.room.specs.declared.Counts.{Counts}
+use Rattle.buffers.specs.declared.Counts.{Counts}
 use Rattle.room.specs.Room.{Scratch, Buffers}
 use Rattle.promises.specs.declared.Built.the-variants.{Mesh, NoMesh}
 use Rattle.promises.specs.declared.Planned.the-variants.{Plan, NoPlan}

@@ -5,7 +5,7 @@ use promises::Built;
 use promises::Planned;
 ghost use mathlib.Core.Path.{_≡_};
 ghost use Rattle.job.specs.Refusals.{refusalNumbers};
-ghost use Rattle.mesh.specs.Outs.{held, holds};
+ghost use Rattle.buffers.specs.Outs.{held, holds};
 ghost use Rattle.room.specs.Room.{buffers, scratch};
 ghost use Rattle.promises.specs.Calls.{builtNumbers, plannedNumbers};
 ghost use Rattle.pdb_reader.specs.Call.{readNumbers};

@@ -1,4 +1,4 @@
--- Laws of checks 9 to 11 and of the clearing. Assumes nothing.
+-- Laws of check 9 and of the clearing. Assumes nothing.
 use Prim.Native.Nat.{ℕ, zero, suc, _+_, _-_, _*_, _<_, _≤_}
 use mathlib.Core.Bool.{Bool, true, false, _||_}
 use mathlib.Core.List.{List, [], _∷_, _++_}
@@ -14,10 +14,7 @@ use Rattle.protein.specs.declared.Head.{Head}
 use Rattle.scratch.specs.Scratch.{Filled, Kept}
 use Rattle.job.specs.Check.{sizes}
 use Rattle.lists.proofs.Any.{drop-same}
-use Rattle.room.specs.Room.{shortScratch, zeroed, Lent, tight}
-use Rattle.mesh.specs.Outs.{Outs, Room}
-use Rattle.room.specs.declared.Counts.{Counts}
-use Rattle.lists.proofs.Bools.{or-left, or-rest}
+use Rattle.room.specs.Room.{shortScratch, zeroed}
 
 pub zeroed-is : (n : ℕ) (t₀ t u : List ℕ) → n ≤ length t₀ → Kept 0 n t₀ t → Filled (λ r. 0) 0 n t u → u ≡ zeroed 0 n t₀
 zeroed-is n t₀ t u fits W F = ext-getD 0 u (zeroed 0 n t₀) sizes places
@@ -85,23 +82,3 @@ long-floats h w f e = ltb-false f (32 * h .residues) (or-last (ltb w (8 * h .res
     or-last : (a b : Bool) → (a || b) ≡ false → b ≡ false
     or-last false b q = q
     or-last true b q = let z : _≡_ {A = ℕ} 0 1 = cc in absurd (omega arith)
-
--- no buffer is too short: there is room
-pub roomy : (c : Counts) (l : Lent) (o : Outs) → l .positions ≡ length (o .positions) → l .normals ≡ length (o .normals) → l .tags ≡ length (o .tags)
-    → l .triangles ≡ length (o .triangles) → l .tubes ≡ length (o .tubes) → l .boxes ≡ length (o .boxes) → tight c l ≡ false
-    → Room (c .tubes) (c .vertices) (c .triangles) o
-unfolding tight
-roomy c l o p n g t r b e =
-    let e1 = or-rest (ltb (l .positions) (3 * c .vertices)) _ e in
-    let e2 = or-rest (ltb (l .normals) (3 * c .vertices)) _ e1 in
-    let e3 = or-rest (ltb (l .tags) (c .vertices)) _ e2 in
-    let e4 = or-rest (ltb (l .triangles) (3 * c .triangles)) _ e3 in
-    let e5 = or-rest (ltb (l .tubes) (5 * c .tubes)) _ e4 in
-    record {
-      positions = omega (arith, ltb-false (l .positions) (3 * c .vertices) (or-left (ltb (l .positions) (3 * c .vertices)) _ e));
-      normals = omega (arith, ltb-false (l .normals) (3 * c .vertices) (or-left (ltb (l .normals) (3 * c .vertices)) _ e1));
-      tags = omega (arith, ltb-false (l .tags) (c .vertices) (or-left (ltb (l .tags) (c .vertices)) _ e2));
-      triangles = omega (arith, ltb-false (l .triangles) (3 * c .triangles) (or-left (ltb (l .triangles) (3 * c .triangles)) _ e3));
-      tubes = omega (arith, ltb-false (l .tubes) (5 * c .tubes) (or-left (ltb (l .tubes) (5 * c .tubes)) _ e4));
-      boxes = omega (arith, ltb-false (l .boxes) (6 * c .tubes) e5);
-    }

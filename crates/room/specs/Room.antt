@@ -1,4 +1,4 @@
--- Checks 9 to 11, and the scratch after a call that passed check 9: 01, 'Refusal numbers' and 'Lent buffers'.
+-- Checks 9 and 10 (11 is `tight` of buffers/specs/Outs), and the scratch after a call that passed check 9: 01, 'Refusal numbers' and 'Lent buffers'.
 use Prim.Native.Nat.{ℕ, _*_}
 use mathlib.Core.List.{List, _++_}
 use mathlib.Core.Bool.{Bool, cond, _||_}
@@ -8,19 +8,14 @@ use lib.Ieee.{Float, binary32, ofBits}
 use Rattle.protein.specs.declared.Head.{Head}
 use Rattle.tubes.specs.Tubes.{Tube}
 use Rattle.mesh.specs.Mesh.{vertexSum}
-use Rattle.mesh.specs.Outs.{Outs}
+use Rattle.buffers.specs.Outs.{Outs, Sizes, mostVertices, sizesOf}
 use Rattle.walk.specs.declared.Five.{Five}
 use Rattle.walk.specs.declared.Totals.{Totals}
-use Rattle.room.specs.declared.Counts.{Counts}
+use Rattle.buffers.specs.declared.Counts.{Counts}
 
 -- what is lent, in places; no answer depends on more of a buffer than its length
 pub record Lent : Type 0 where
-  pub positions : ℕ
-  pub normals : ℕ
-  pub tags : ℕ
-  pub triangles : ℕ
-  pub tubes : ℕ
-  pub boxes : ℕ
+  pub outs : Sizes
   pub words : ℕ
   pub floats : ℕ
 
@@ -41,16 +36,7 @@ buffers o w f = record { outs = o; scratch = scratch w f }
 
 -- how long they are
 abbrev pub lent : Buffers → Lent
-lent b = record {
-  positions = length (b .outs .positions);
-  normals = length (b .outs .normals);
-  tags = length (b .outs .tags);
-  triangles = length (b .outs .triangles);
-  tubes = length (b .outs .tubes);
-  boxes = length (b .outs .boxes);
-  words = length (b .scratch .words);
-  floats = length (b .scratch .floats);
-}
+lent b = record { outs = sizesOf (b .outs); words = length (b .scratch .words); floats = length (b .scratch .floats) }
 
 -- 'all five 0'
 abbrev pub noWords : Five
@@ -70,17 +56,7 @@ shortScratch h words floats = ltb words (8 * h .residues) || ltb floats (32 * h 
 
 -- 10: 'V above 1,048,576'
 unfoldable pub tooMany : List Tube → Bool
-tooMany us = ltb 1048576 (vertexSum us)
-
--- 11: 'an output buffer too short', of 'positions 3V f32, normals 3V f32, tags V u32, triangles 3T u32, tubes 5K u32 .., boxes 6K f32'
-unfoldable pub tight : Counts → Lent → Bool
-tight c l =
-    ltb (l .positions) (3 * c .vertices)
-    || (ltb (l .normals) (3 * c .vertices)
-    || (ltb (l .tags) (c .vertices)
-    || (ltb (l .triangles) (3 * c .triangles)
-    || (ltb (l .tubes) (5 * c .tubes)
-    || ltb (l .boxes) (6 * c .tubes)))))
+tooMany us = ltb mostVertices (vertexSum us)
 
 -- the first n places are z, 'all others .. are unchanged'
 abbrev pub zeroed : {A : Type 0} → A → ℕ → List A → List A

@@ -1,4 +1,5 @@
-// Checks 9 and 11, the totals that a call begins with, and the scratch after a call that passed check 9.
+// Check 9, the totals that a call begins with, and the scratch after a call that passed check 9. Check 11 is `buffers::is_tight`.
+use buffers::Counts;
 use protein::Head;
 use walk::Five;
 use walk::Totals;
@@ -6,15 +7,7 @@ ghost use mathlib.Core.Path.{_≡_};
 ghost use Prim.Native.Nat.{_*_, _≤_};
 ghost use lib.ListN.{length};
 ghost use lib.Ieee.{binary32, ofBits};
-ghost use Rattle.walk.specs.Walk.{Small, allFrames};
-ghost use Rattle.room.specs.Room.{start, countsIn, shortScratch, tight, zeroed, clearedWords, clearedFloats};
-
-// K, V and T.
-pub struct Counts {
-    pub tubes: usize,
-    pub vertices: usize,
-    pub triangles: usize,
-}
+ghost use Rattle.room.specs.Room.{start, countsIn, shortScratch, zeroed, clearedWords, clearedFloats};
 
 // Before the first tube, where tube k's words are asked for.
 pub fn before_all(k: usize) -> Totals
@@ -78,36 +71,4 @@ pub fn is_short(h: Head, words: usize, floats: usize) -> bool
         return true;
     }
     floats < 32 * n
-}
-
-// Check 11: whether some output buffer is too short.
-pub fn is_tight(
-    t: Totals,
-    positions: usize,
-    normals: usize,
-    tags: usize,
-    triangles: usize,
-    records: usize,
-    boxes: usize,
-) -> bool
-    requires { ⌜ Small t allFrames ⌝ }
-    ensures { λ r. ⌜ r ≡ tight (countsIn t)
-        (record { positions = positions; normals = normals; tags = tags; triangles = triangles; tubes = records; boxes = boxes; words = 0; floats = 0 }) ⌝ }
-{
-    if positions < 3 * t.vertices {
-        return true;
-    }
-    if normals < 3 * t.vertices {
-        return true;
-    }
-    if tags < t.vertices {
-        return true;
-    }
-    if triangles < 3 * t.triangles {
-        return true;
-    }
-    if records < 5 * t.tubes {
-        return true;
-    }
-    boxes < 6 * t.tubes
 }

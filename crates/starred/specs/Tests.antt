@@ -30,7 +30,8 @@ use Rattle.tubes.specs.Tubes.{Tube}
 use Rattle.tubes.specs.declared.Source.{Source}
 use Rattle.tubes.specs.declared.Source.the-variants.{Coils, Segment}
 use Rattle.mesh.specs.Mesh.{boxBy, tubeBox, meshPositions, meshNormals, meshBoxes}
-use Rattle.room.specs.Room.{Lent, shortScratch, tooMany, tight}
+use Rattle.buffers.specs.Outs.{sizes, tight}
+use Rattle.room.specs.Room.{Lent, shortScratch, tooMany}
 use Rattle.promises.specs.Calls.{jobTubes, wordsAt, buildChecks, buildAnswer, planChecks, planAnswer}
 use Rattle.promises.specs.declared.Built.{Built}
 use Rattle.promises.specs.declared.Built.the-variants.{Mesh, NoMesh}
@@ -83,16 +84,7 @@ tubesAre s us = ifFine (check s) (λ h. sameTubes (jobTubes s h) us)
 
 -- room for v vertices, t triangles and k tubes
 abbrev pub roomFor : ℕ → ℕ → ℕ → ℕ → Lent
-roomFor v t k r = record {
-  positions = 3 * v;
-  normals = 3 * v;
-  tags = v;
-  triangles = 3 * t;
-  tubes = 5 * k;
-  boxes = 6 * k;
-  words = 8 * r;
-  floats = 32 * r;
-}
+roomFor v t k r = record { outs = sizes (3 * v) (3 * v) v (3 * t) (5 * k) (6 * k); words = 8 * r; floats = 32 * r }
 
 abbrev isMesh : Built → List ℕ → Bool
 isMesh (Mesh c) l = sameList (c .tubes ∷ c .vertices ∷ c .triangles ∷ []) l
