@@ -1,16 +1,18 @@
 -- From the pattern of a value back to the value, over the format. Assumes nothing.
 use mathlib.Core.Path.{_≡_, refl, sym, ap, _∙_, subst}
-use Prim.Native.Nat.{ℕ, zero, suc, _+_, _-_, _*_, _/_, _^_, _≤_, _<_, compare}
+use Prim.Native.Nat.{ℕ, zero, suc, _+_, _-_, _*_, _/_, _%_, _^_, _≤_, _<_, compare}
+use borrow.Author.Tests.{le-ltb}
 use native.Mathlib.Nat.{le-refl, le-trans, lt-of-le-of-lt}
 use mathlib.Core.Bool.{Bool, true, false, not, cond}
 use lib.Dec.{T, ltb, ltb→lt}
 use lib.Pow.{pow-lt}
 use lib.Ieee.{Float, nan, inf, fin, Format, binary32, prec, low, up, down, size, nearest, odd, units, toBits, ofBits, nanBits, isNan, fits, div, ne}
-use lib.Ieee.Bits.{ofBits-toBits, nanBits-is}
+use lib.Ieee.Bits.{ofBits-toBits, nanBits-is, nanBits-above}
 use lib.Ieee.Fits.{nan-fits, inf-fits, odd-fits, cond-fits, round-fits, nearest-le, kept-lt}
 use lib.Ieee.Scale.{overflow}
 use lib.Ieee.Compare.{differs-from-itself}
 use Rattle.floats.specs.Floats.{narrowed, floorRoot, nearestRoot, root}
+use Rattle.floats.proofs.Fields.{nan-bits}
 
 -- a pattern that is not `nan`'s gives its value back
 other : (f : Format) (v : Float) → (toBits f v ≡ toBits f nan → ⊥) → T (not (isNan v))
@@ -76,3 +78,16 @@ root-nan f = refl
 
 pub differs : (x : Float) → ne x x ≡ true → x ≡ nan
 differs x e = differs-from-itself x (subst T (sym e) tt)
+
+-- ---- bits
+
+-- a float that does not equal itself is THE NaN, and has its bits
+pub nan-word : (x : Float) → ne x x ≡ true → 0x7fc0_0000 ≡ toBits binary32 x
+nan-word x e = sym bits-nan ∙ ap (toBits binary32) (sym (differs x e))
+
+-- a pattern above the infinity's, its sign put aside, is a NaN's, and no other is
+pub nan-pattern : (w : ℕ) → 0x7f80_0000 < w % 0x8000_0000 → div binary32 (ofBits binary32 0) (ofBits binary32 0) ≡ ofBits binary32 w
+nan-pattern w h = zero-over-zero ∙ sym (nan-bits binary32 w h)
+
+pub plain-pattern : (w : ℕ) → w % 0x8000_0000 ≤ 0x7f80_0000 → T (not (nanBits binary32 w))
+plain-pattern w h = subst (λ (x : Bool). T (not x)) (sym (nanBits-above binary32 w ∙ le-ltb 0x7f80_0000 (w % 0x8000_0000) h)) tt

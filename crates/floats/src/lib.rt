@@ -1,4 +1,5 @@
-// Float leaves: narrowing and the square root, over whole numbers, and the absolute value and the greater of two.
+// Float leaves: bits, narrowing and the square root, over whole numbers, and the absolute value and the greater of two.
+pub mod bits;
 pub mod narrow;
 pub mod root;
 

@@ -1,13 +1,9 @@
 -- What the proofs of this crate share, and those of writers of records. Assumes nothing.
 use Prim.Native.Nat.{ℕ, _+_, _/_, _%_, _<_}
-use mathlib.Core.Path.{_≡_, refl, sym, ap, _∙_, subst}
+use mathlib.Core.Path.{_≡_, refl, sym, ap, _∙_}
 use mathlib.Core.List.{List, [], _∷_, _++_}
-use mathlib.Core.Bool.{true}
 use native.Mathlib.Omega.{arith}
-use lib.Dec.{T}
 use lib.ListN.{length}
-use lib.Ieee.{Float, binary32, toBits, ne}
-use lib.Ieee.Compare.{differs-from-itself}
 use Rattle.lists.specs.Put.{put}
 use Rattle.lists.proofs.Puts.{next}
 use Rattle.numbers.specs.Bytes.{u16, u32, u64}
@@ -32,8 +28,3 @@ seq l b i j w xs ys q h e e′ = next l b i j xs ys e′ e (h ∙ ap (λ (n : �
 pub word-bytes : (w : ℕ) → w < 4294967296 → w / 16777216 ∷ w / 65536 % 256 ∷ w / 256 % 256 ∷ w % 256 ∷ [] ≡ u32 w
 unfolding u32 u16
 word-bytes w h = ap (λ (x : ℕ). x ∷ w / 65536 % 256 ∷ w / 256 % 256 ∷ w % 256 ∷ []) (omega arith)
-
--- a float that does not equal itself is THE NaN, and has its bits
-pub nan-word : (x : Float) → ne x x ≡ true → 0x7fc0_0000 ≡ toBits binary32 x
-unfolding toBits
-nan-word x e = ap (toBits binary32) (sym (differs-from-itself x (subst T (sym e) tt)))

@@ -1,23 +1,15 @@
-// Words, floats and bytes, written as bytes a slice at a time, and words read back.
+// Words, floats and bytes, written as bytes a slice at a time, and words and floats read back.
 use crate::u32_at;
+use floats::bits::float_of;
+use floats::bits::float_word;
 ghost use mathlib.Core.Path.{_≡_};
 ghost use mathlib.Core.List.{[], _∷_};
 ghost use Prim.Native.Nat.{ℕ, _+_, _*_, _≤_};
 ghost use lib.ListN.{length};
-ghost use lib.Ieee.{binary32, toBits};
+ghost use lib.Ieee.{binary32, ofBits};
 ghost use Rattle.lists.specs.Put.{put, upto};
 ghost use Rattle.numbers.specs.Bytes.{u32, u32At};
 ghost use Rattle.numbers.specs.Words.{wordBytes, floatBytes, plainBytes};
-
-// A float's bits, and one pattern for every NaN.
-pub fn float_word(x: f32) -> u32
-    ensures { λ r. ⌜ r ≡ toBits binary32 x ⌝ }
-{
-    if x != x {
-        return 0x7fc0_0000;
-    }
-    f32::to_bits(x)
-}
 
 pub fn put_word(out: &mut [u8], at: usize, w: u32)
     requires { ⌜ at + 4 ≤ length (now out) ⌝ }
@@ -70,6 +62,19 @@ pub fn get_words(b: &[u8], at: usize, w: &mut [u32])
     let mut i = 0;
     while i < w.len() {
         w[i] = u32_at(b, at + i * 4) as u32;
+        i += 1;
+    }
+}
+
+// The floats whose bits stand in b from byte at on.
+pub fn get_floats(b: &[u8], at: usize, f: &mut [f32])
+    requires { ⌜ at + length (now f) * 4 ≤ length (now b) ⌝ }
+    ensures { λ _. ⌜ now (f .exit) ≡ put (now (f .entry)) 0
+        (upto (λ k. ofBits binary32 (u32At (now (b .entry)) (at + k * 4)) ∷ []) (length (now (f .entry)))) ⌝ }
+{
+    let mut i = 0;
+    while i < f.len() {
+        f[i] = float_of(u32_at(b, at + i * 4) as u32);
         i += 1;
     }
 }

@@ -1,8 +1,8 @@
 use borrow.Author.Needs.{needs}
 use Rattle.floats.proofs.RootBits.{same-no-nan}
-use Rattle.numbers.proofs.Laws.{nan-word}
-use Rattle.numbers.proofs.words.float_word.Statement.{statement}
-use Rattle.numbers.proofs.words.float_word.Tie as tie
+use Rattle.floats.proofs.Written.{nan-word}
+use Rattle.floats.proofs.bits.float_word.Statement.{statement}
+use Rattle.floats.proofs.bits.float_word.Tie as tie
 
 pub float-word-spec : {M : Type 1} → statement M
 float-word-spec =
