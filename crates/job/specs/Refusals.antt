@@ -1,9 +1,9 @@
--- The refusals of every call: the number and the carried values of each (01, 'Refusal numbers'; 02 §1, 'Refusals').
+-- The refusals of every call: the number and the carried values of each (01, 'Refusal numbers'; 02 §1 and §4, 'Refusals').
 use Prim.Native.Nat.{ℕ}
 use mathlib.Core.List.{List, [], _∷_}
 use lib.ListN.{getD}
 use Rattle.job.specs.declared.Refusal.{Refusal}
-use Rattle.job.specs.declared.Refusal.the-variants.{BadLength, BadVersion, BadCounts, BadSize, BadVisibility, BadKind, BadAtom, BadCoordinate, NoScratch, TooManyVertices, NoRoom, ShortLine, BadNumber, AbsentResidue, PastLimits, NoJobRoom}
+use Rattle.job.specs.declared.Refusal.the-variants.{BadLength, BadVersion, BadCounts, BadSize, BadVisibility, BadKind, BadAtom, BadCoordinate, NoScratch, TooManyVertices, NoRoom, ShortLine, BadNumber, AbsentResidue, PastLimits, NoJobRoom, Inconsistent, NoStlRoom, NotStl}
 
 -- the column 'No.'
 abbrev pub numberOf : Refusal → ℕ
@@ -23,6 +23,9 @@ numberOf (BadNumber n) = 13
 numberOf (AbsentResidue n) = 14
 numberOf PastLimits = 15
 numberOf (NoJobRoom n) = 16
+numberOf Inconsistent = 17
+numberOf (NoStlRoom n) = 18
+numberOf NotStl = 19
 
 -- the column 'Carries'
 abbrev pub carried : Refusal → List ℕ
@@ -42,6 +45,9 @@ carried (BadNumber n) = n ∷ []
 carried (AbsentResidue n) = n ∷ []
 carried PastLimits = 0 ∷ []
 carried (NoJobRoom n) = n ∷ []
+carried Inconsistent = 0 ∷ []
+carried (NoStlRoom n) = n ∷ []
+carried NotStl = 0 ∷ []
 
 -- the first three values of a list, 0 where there is none
 abbrev pub three : List ℕ → List ℕ

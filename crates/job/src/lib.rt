@@ -14,7 +14,7 @@ ghost use Rattle.protein.specs.Layout.{Whole};
 ghost use Rattle.job.specs.Check.{sizes, contents, check, stray, badVisibility, badKind, badAtom, badCoordinate};
 
 // The refusals of every call in the order of their numbers, with what each carries: 01's 1 to 11, then those of 02 §1, the reader
-// of PDB files, 12 to 16. `numberOf` and `carried` of specs/Refusals set out the tables.
+// of PDB files, 12 to 16, and of 02 §4, binary STL, 17 to 19. `numberOf` and `carried` of specs/Refusals set out the tables.
 pub enum Refusal {
     BadLength,
     BadVersion(u8),
@@ -32,6 +32,9 @@ pub enum Refusal {
     AbsentResidue(usize),
     PastLimits,
     NoJobRoom(usize),
+    Inconsistent,
+    NoStlRoom(usize),
+    NotStl,
 }
 
 // What the checks of a job's bytes answer: its counts, or a refusal.
@@ -61,6 +64,9 @@ pub fn refusal_numbers(r: Refusal) -> [usize; 4]
         Refusal::AbsentResidue(n) => [14, n, 0, 0],
         Refusal::PastLimits => [15, 0, 0, 0],
         Refusal::NoJobRoom(n) => [16, n, 0, 0],
+        Refusal::Inconsistent => [17, 0, 0, 0],
+        Refusal::NoStlRoom(n) => [18, n, 0, 0],
+        Refusal::NotStl => [19, 0, 0, 0],
     }
 }
 

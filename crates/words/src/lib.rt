@@ -72,6 +72,22 @@ fn explain_file(r: Refusal) {
     }
 }
 
+// The refusals of binary STL, 17 to 19: the writer's and the reader's 18 are told alike, by the number that they carry.
+fn explain_stl(r: Refusal) {
+    match r {
+        Refusal::Inconsistent => say(
+            b"the mesh buffers are not those of a mesh: too short for its counts, of more than 1048576 vertices, or a kind, a length, a start, the end or a corner is not what it must be\nwhat to do: hand over the buffers and the counts K, V and T as ribbon_build left them (docs/STL.md)\n",
+        ),
+        Refusal::NoStlRoom(_) => say(
+            b"the lent room is too short: for writing the number is the file's size in bytes, for reading its triangles\nwhat to do: lend so many bytes; for reading nine corner floats and three normal floats for each triangle\n",
+        ),
+        Refusal::NotStl => say(
+            b"this is no binary STL file: its size is not 84 bytes and 50 for each triangle that it counts\nwhat to do: fetch the file again if it was cut; a text STL (it begins with solid) has to be saved as binary first\n",
+        ),
+        _ => {}
+    }
+}
+
 // What a number means and what to do, for a reader who has no list of them at hand.
 pub fn explain(r: Refusal) {
     match r {
@@ -89,5 +105,6 @@ pub fn explain(r: Refusal) {
         | Refusal::AbsentResidue(_)
         | Refusal::PastLimits
         | Refusal::NoJobRoom(_) => explain_file(r),
+        Refusal::Inconsistent | Refusal::NoStlRoom(_) | Refusal::NotStl => explain_stl(r),
     }
 }
