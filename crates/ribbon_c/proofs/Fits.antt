@@ -1,15 +1,15 @@
 -- The calls for C: any two results that the promises allow are equal, in the words and in every buffer; a job that was read passes checks 1 to 8; and no
--- count is cut, where K, V and T of a mesh, of a plan and of refusal 11, and a job's size, are handed out in words of 32 bits. Assumes nothing.
+-- count is cut, where K, V and T of a mesh, of a plan and of refusal 11, a job's size, a file's size and its count of triangles are handed out in words of 32 bits. Assumes nothing.
 use Prim.Native.Nat.{ℕ, _<_, _≤_}
 use mathlib.Core.List.{List, [], _∷_}
 use mathlib.Core.Path.{_≡_, sym, ap, _∙_}
 use native.Mathlib.Nat.{mod-eq-of-lt}
 use native.Mathlib.Omega.{arith}
-use lib.ListN.{length, take}
+use lib.ListN.{length, getD, take}
 use Rattle.protein.specs.Layout.{headOf}
 use Rattle.job.specs.Refusals.{numberOf}
 use Rattle.job.specs.declared.Refusal.{Refusal}
-use Rattle.job.specs.declared.Refusal.the-variants.{NoRoom, NoJobRoom}
+use Rattle.job.specs.declared.Refusal.the-variants.{NoRoom, NoJobRoom, NoStlRoom}
 use Rattle.pdb_reader.specs.declared.Read.the-variants.{Written, NoJob}
 use Rattle.pdb_reader.specs.Call.{readNumbers, Reads}
 use Rattle.pdb_reader.proofs.Demands.{read-determined, buffer-passes, size-below, needed-below}
@@ -17,6 +17,13 @@ use Rattle.tubes.specs.Tubes.{Tube}
 use Rattle.mesh.specs.Mesh.{vertexSum, triangleSum}
 use Rattle.walk.specs.declared.Five.{Five}
 use Rattle.buffers.specs.declared.Counts.{Counts}
+use Rattle.buffers.specs.Outs.{Outs}
+use Rattle.stl_writer.specs.declared.Wrote.the-variants.{Stl, NoStl}
+use Rattle.stl_writer.specs.Call.{wroteNumbers, WritesStl}
+use Rattle.stl_writer.proofs.Demands.{write-determined, file-size-below, needed-below as stl-needed-below}
+use Rattle.stl_reader.specs.declared.Listed.the-variants.{Facets, NoFacets}
+use Rattle.stl_reader.specs.Call.{Lists, listedNumbers, ReadsStl}
+use Rattle.stl_reader.proofs.Demands.{list-determined, count-below, asked-below}
 use Rattle.room.specs.Room.{Scratch, Buffers}
 use Rattle.promises.specs.declared.Built.the-variants.{Mesh, NoMesh}
 use Rattle.promises.specs.declared.Planned.the-variants.{Plan, NoPlan}
@@ -25,7 +32,7 @@ use Rattle.promises.specs.Meshes.{tubesIn}
 use Rattle.promises.proofs.Tubes.{AllLong, list-long-of, long-sums}
 use Rattle.promises.proofs.Checks.{passes-by}
 use Rattle.promises.proofs.Demands.{build-determined, plan-determined, past-checks, plan-past-checks, accepted, plan-accepted, room-means}
-use Rattle.ribbon_c.specs.Words.{wordOf, wordsOf, BuildsWords, PlansWords, ReadsWords}
+use Rattle.ribbon_c.specs.Words.{wordOf, wordsOf, BuildsWords, PlansWords, ReadsWords, WritesStlWords, ReadsStlWords}
 
 -- ---- one answer, and one content of every buffer
 
@@ -43,6 +50,16 @@ pub read-words-determined : {s out out′ out₂ a d : List ℕ}
     → ReadsWords s out a out′ → ReadsWords s out d out₂ → (a ≡ d) × (out′ ≡ out₂)
 read-words-determined A D =
     (A .words ∙ ap wordsOf (A .promise .answer ∙ sym (D .promise .answer)) ∙ sym (D .words), read-determined (A .promise) (D .promise) .1)
+
+pub write-stl-words-determined : {o : Outs} {c : Counts} {out out′ out₂ a d : List ℕ}
+    → WritesStlWords o c out a out′ → WritesStlWords o c out d out₂ → (a ≡ d) × (out′ ≡ out₂)
+write-stl-words-determined A D =
+    (A .words ∙ ap wordsOf (A .promise .answer ∙ sym (D .promise .answer)) ∙ sym (D .words), write-determined (A .promise) (D .promise) .1)
+
+pub read-stl-words-determined : {s : List ℕ} {l l′ l₂ : Lists} {a d : List ℕ}
+    → ReadsStlWords s l a l′ → ReadsStlWords s l d l₂ → (a ≡ d) × (l′ ≡ l₂)
+read-stl-words-determined A D =
+    (A .words ∙ ap wordsOf (A .promise .answer ∙ sym (D .promise .answer)) ∙ sym (D .words), list-determined (A .promise) (D .promise) .1)
 
 -- ---- from the reader to the builder: a job that was read is refused by no check before 9
 
@@ -93,3 +110,19 @@ size-fits {n = n} R = rw (word-same n (size-below R))
 pub needed-fits : {s out out′ : List ℕ} {n : ℕ} → Reads s out (NoJob (NoJobRoom n)) out′
     → wordsOf (readNumbers (NoJob (NoJobRoom n))) ≡ readNumbers (NoJob (NoJobRoom n))
 needed-fits {n = n} R = rw (word-same n (needed-below R))
+
+-- the size of an STL file, and the one that refusal 18 carries; the count of a file that was listed, and the one that 18 carries
+pub stl-fits : {o : Outs} {c : Counts} {out out′ : List ℕ} {n : ℕ} → WritesStl 8 8 o c out (Stl n) out′ → wordsOf (wroteNumbers (Stl n)) ≡ wroteNumbers (Stl n)
+stl-fits {n = n} W = rw (word-same n (file-size-below W))
+
+pub stl-needed-fits : {o : Outs} {c : Counts} {out out′ : List ℕ} {n : ℕ} → WritesStl 8 8 o c out (NoStl (NoStlRoom n)) out′
+    → wordsOf (wroteNumbers (NoStl (NoStlRoom n))) ≡ wroteNumbers (NoStl (NoStlRoom n))
+stl-needed-fits {n = n} W = rw (word-same n (stl-needed-below W))
+
+pub listed-fits : {s : List ℕ} {l l′ : Lists} {t : ℕ} → ((i : ℕ) → getD s i 0 < 256) → ReadsStl s l (Facets t) l′
+    → wordsOf (listedNumbers (Facets t)) ≡ listedNumbers (Facets t)
+listed-fits {t = t} b R = rw (word-same t (count-below b R))
+
+pub asked-fits : {s : List ℕ} {l l′ : Lists} {t : ℕ} → ((i : ℕ) → getD s i 0 < 256) → ReadsStl s l (NoFacets (NoStlRoom t)) l′
+    → wordsOf (listedNumbers (NoFacets (NoStlRoom t))) ≡ listedNumbers (NoFacets (NoStlRoom t))
+asked-fits {t = t} b R = rw (word-same t (asked-below b R))

@@ -4,6 +4,12 @@ use mathlib.Core.List.{List, [], _∷_}
 use mathlib.Core.Path.{_≡_}
 use Rattle.pdb_reader.specs.declared.Read.{Read}
 use Rattle.pdb_reader.specs.Call.{readNumbers, Reads}
+use Rattle.buffers.specs.declared.Counts.{Counts}
+use Rattle.buffers.specs.Outs.{Outs}
+use Rattle.stl_writer.specs.declared.Wrote.{Wrote}
+use Rattle.stl_writer.specs.Call.{wroteNumbers, WritesStl}
+use Rattle.stl_reader.specs.declared.Listed.{Listed}
+use Rattle.stl_reader.specs.Call.{Lists, listedNumbers, ReadsStl}
 use Rattle.room.specs.Room.{Scratch, Buffers}
 use Rattle.promises.specs.declared.Built.{Built}
 use Rattle.promises.specs.declared.Planned.{Planned}
@@ -34,3 +40,15 @@ pub record ReadsWords (s out a out′ : List ℕ) : Type 0 where
   pub answer : Read
   pub promise : Reads s out answer out′
   pub words : a ≡ wordsOf (readNumbers answer)
+
+-- ribbon_write_stl, of the mesh buffers o and the counts c, where the lent bytes held out
+pub record WritesStlWords (o : Outs) (c : Counts) (out a out′ : List ℕ) : Type 0 where
+  pub answer : Wrote
+  pub promise : WritesStl 8 8 o c out answer out′
+  pub words : a ≡ wordsOf (wroteNumbers answer)
+
+-- ribbon_read_stl, of a file's bytes s, where the lent lists held l
+pub record ReadsStlWords (s : List ℕ) (l : Lists) (a : List ℕ) (l′ : Lists) : Type 0 where
+  pub answer : Listed
+  pub promise : ReadsStl s l answer l′
+  pub words : a ≡ wordsOf (listedNumbers answer)

@@ -1,16 +1,21 @@
 // The calls for C and Rust: a slice is a pointer and a length, and an answer is words in a lent array. What they promise stands in specs/Words.
+use buffers::Counts;
 use job::Refusal;
 use pdb_reader::Read;
 use promises::Built;
 use promises::Planned;
+use stl_reader::Listed;
+use stl_writer::Wrote;
 ghost use mathlib.Core.Path.{_≡_};
 ghost use Rattle.job.specs.Refusals.{refusalNumbers};
 ghost use Rattle.buffers.specs.Outs.{held, holds};
 ghost use Rattle.room.specs.Room.{buffers, scratch};
 ghost use Rattle.promises.specs.Calls.{builtNumbers, plannedNumbers};
 ghost use Rattle.pdb_reader.specs.Call.{readNumbers};
+ghost use Rattle.stl_writer.specs.Call.{wroteNumbers};
+ghost use Rattle.stl_reader.specs.Call.{lists, listedNumbers};
 ghost use Rattle.tube_call.specs.Part.{PartFor};
-ghost use Rattle.ribbon_c.specs.Words.{wordOf, wordsOf, BuildsWords, PlansWords, ReadsWords};
+ghost use Rattle.ribbon_c.specs.Words.{wordOf, wordsOf, BuildsWords, PlansWords, ReadsWords, WritesStlWords, ReadsStlWords};
 
 fn word(n: usize) -> u32
     ensures { λ r. ⌜ r ≡ wordOf n ⌝ }
@@ -62,6 +67,24 @@ fn read_words(a: Read) -> [u32; 4]
     match a {
         Read::Written(n) => [0, word(n), 0, 0],
         Read::NoJob(r) => refusal_words(r),
+    }
+}
+
+fn wrote_words(a: Wrote) -> [u32; 4]
+    ensures { λ w. ⌜ w ≡ wordsOf (wroteNumbers a) ⌝ }
+{
+    match a {
+        Wrote::Stl(n) => [0, word(n), 0, 0],
+        Wrote::NoStl(r) => refusal_words(r),
+    }
+}
+
+fn listed_words(a: Listed) -> [u32; 4]
+    ensures { λ w. ⌜ w ≡ wordsOf (listedNumbers a) ⌝ }
+{
+    match a {
+        Listed::Facets(t) => [0, word(t), 0, 0],
+        Listed::NoFacets(r) => refusal_words(r),
     }
 }
 
@@ -135,4 +158,46 @@ pub extern "C" fn ribbon_read_pdb(file: &[u8], job: &mut [u8], answer: &mut [u32
 {
     let a = pdb_reader::read_pdb(file, job);
     *answer = read_words(a);
+}
+
+// The number (0: a file) and the file's size, or a refusal's number and what it carries, go to answer. The mesh buffers are only read.
+#[no_mangle]
+pub extern "C" fn ribbon_write_stl(
+    positions: &[f32],
+    normals: &[f32],
+    tags: &[u32],
+    triangles: &[u32],
+    tubes: &[u32],
+    boxes: &[f32],
+    k: usize,
+    v: usize,
+    t: usize,
+    stl: &mut [u8],
+    answer: &mut [u32; 4],
+)
+    ensures { λ _. ⌜ WritesStlWords (held positions normals tags triangles tubes boxes) (record { tubes = k; vertices = v; triangles = t })
+        (now (stl .entry)) (now (answer .exit)) (now (stl .exit)) ⌝ }
+{
+    let c = Counts {
+        tubes: k,
+        vertices: v,
+        triangles: t,
+    };
+    let a = stl_writer::write_stl(positions, normals, tags, triangles, tubes, boxes, c, stl);
+    *answer = wrote_words(a);
+}
+
+// The number (0: a list) and T, or a refusal's number and what it carries, go to answer.
+#[no_mangle]
+pub extern "C" fn ribbon_read_stl(
+    file: &[u8],
+    corners: &mut [f32],
+    normals: &mut [f32],
+    answer: &mut [u32; 4],
+)
+    ensures { λ _. ⌜ ReadsStlWords (now (file .entry)) (lists (now (corners .entry)) (now (normals .entry))) (now (answer .exit))
+        (lists (now (corners .exit)) (now (normals .exit))) ⌝ }
+{
+    let a = stl_reader::read_stl(file, corners, normals);
+    *answer = listed_words(a);
 }

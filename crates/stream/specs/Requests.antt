@@ -23,9 +23,10 @@ lengthsOf h = record {
 abbrev pub requestOf : List ℕ → Request
 requestOf h = record { call = u8At h 0; lent = lengthsOf h; k = u32At h 33; bytes = u32At h 37 }
 
--- the sum of two lengths is far below 2^64
+-- the sum of the mesh buffers' lengths is far below 2^64
 abbrev pub SmallLengths : Request → Type 0
-SmallLengths r = (r .lent .tubes < 4294967296) × (r .lent .triangles < 4294967296)
+SmallLengths r = (r .lent .positions < 4294967296) × (r .lent .normals < 4294967296) × (r .lent .tags < 4294967296)
+    × (r .lent .triangles < 4294967296) × (r .lent .tubes < 4294967296) × (r .lent .boxes < 4294967296)
 
 -- a program whose arrays have the lengths own serves a request for these
 pub record Within (lent own : Lengths) : Type 0 where
@@ -42,8 +43,31 @@ pub record Within (lent own : Lengths) : Type 0 where
 abbrev pub known : Request → Bool
 known r = eqb (r .call) 1 || eqb (r .call) 2 || (eqb (r .call) 3 && eqb (r .bytes) (4 * (r .lent .tubes + r .lent .triangles)))
 
--- a request that is answered by a call, by a program whose arrays have the lengths own and room for so many bytes
+-- a request that is answered by one of calls 1 to 3, by a program whose arrays have the lengths own and room for so many bytes
 pub record Serves (r : Request) (own : Lengths) (room : ℕ) : Type 0 where
   pub within : Within (r .lent) own
   pub fits : r .bytes ≤ room
   pub knows : known r ≡ true
+
+-- the places of the six mesh buffers
+abbrev pub meshPlaces : Lengths → ℕ
+meshPlaces l = l .positions + l .normals + l .tags + l .triangles + l .tubes + l .boxes
+
+-- what a request to write STL is lent: the mesh buffers, and its bytes in the place of scratch words; scratch floats are not looked at
+abbrev pub stlLent : Lengths → Lengths
+stlLent l = record {
+  positions = l .positions;
+  normals = l .normals;
+  tags = l .tags;
+  triangles = l .triangles;
+  tubes = l .tubes;
+  boxes = l .boxes;
+  words = l .words;
+  floats = 0;
+}
+
+-- a request to write STL that is answered by the call: its bytes are K, V, T and the contents of the mesh buffers
+pub record ServesMesh (r : Request) (own : Lengths) (room : ℕ) : Type 0 where
+  pub within : Within (stlLent (r .lent)) own
+  pub fits : r .bytes ≤ room
+  pub sized : r .bytes ≡ 12 + 4 * meshPlaces (r .lent)

@@ -1,9 +1,9 @@
 // The head of a request.
 ghost use mathlib.Core.Path.{_≡_};
 ghost use mathlib.Core.Bool.{true};
-ghost use Prim.Native.Nat.{_≤_};
+ghost use Prim.Native.Nat.{_≤_, _<_};
 ghost use lib.ListN.{length};
-ghost use Rattle.stream.specs.Requests.{requestOf, SmallLengths, Within, known, Serves};
+ghost use Rattle.stream.specs.Requests.{requestOf, SmallLengths, Within, known, Serves, meshPlaces, stlLent, ServesMesh};
 
 // How many places are lent of each buffer.
 pub struct Lengths {
@@ -77,7 +77,7 @@ fn is_within(lent: Lengths, own: Lengths) -> bool
     true
 }
 
-// Whether a request is one that is answered.
+// Whether a request is one of calls 1 to 3 that is answered.
 fn is_known(r: Request) -> bool
     requires { ⌜ SmallLengths r ⌝ }
     ensures { λ a. ⌜ a ≡ known r ⌝ }
@@ -95,7 +95,7 @@ fn is_known(r: Request) -> bool
     false
 }
 
-// Whether a program answers a request by a call: it knows it, and has room for the lent buffers and the bytes.
+// Whether a program answers a request by one of calls 1 to 3: it knows it, and has room for the lent buffers and the bytes.
 pub fn is_served(r: Request, own: Lengths, room: usize) -> bool
     requires { ⌜ SmallLengths r ⌝ }
     ensures { λ a. ⌜ (a ≡ true → Serves r own room) × (Serves r own room → a ≡ true) ⌝ }
@@ -108,6 +108,50 @@ pub fn is_served(r: Request, own: Lengths, room: usize) -> bool
         return false;
     }
     if !is_known(r) {
+        return false;
+    }
+    true
+}
+
+// How many places the six mesh buffers have.
+fn mesh_places(r: Request) -> usize
+    requires { ⌜ SmallLengths r ⌝ }
+    ensures { λ n. ⌜ (n ≡ meshPlaces (r .lent)) × (n < 25769803776) ⌝ }
+{
+    let l = r.lent;
+    l.positions + l.normals + l.tags + l.triangles + l.tubes + l.boxes
+}
+
+// The lengths that a request to write STL is lent: no scratch floats, whatever stands in their place.
+fn stl_lent(l: Lengths) -> Lengths
+    ensures { λ m. ⌜ m ≡ stlLent l ⌝ }
+{
+    Lengths {
+        positions: l.positions,
+        normals: l.normals,
+        tags: l.tags,
+        triangles: l.triangles,
+        tubes: l.tubes,
+        boxes: l.boxes,
+        words: l.words,
+        floats: 0,
+    }
+}
+
+// Whether a program answers a request to write STL by the call: it has room for the mesh buffers, the lent bytes and the request's own, which are K, V, T and
+// the contents of the mesh buffers.
+pub fn is_mesh_served(r: Request, own: Lengths, room: usize) -> bool
+    requires { ⌜ SmallLengths r ⌝ }
+    ensures { λ a. ⌜ (a ≡ true → ServesMesh r own room) × (ServesMesh r own room → a ≡ true) ⌝ }
+{
+    let lent = r.lent;
+    if !is_within(stl_lent(lent), own) {
+        return false;
+    }
+    if room < r.bytes {
+        return false;
+    }
+    if r.bytes != 12 + 4 * mesh_places(r) {
         return false;
     }
     true
