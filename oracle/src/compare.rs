@@ -16,9 +16,11 @@ use crate::{
     generator::Kind,
     job::{NONE, RawJob},
     protocol::{
-        BUILD, NAMES, READ, Request, TOO_LONG, TUBE, answer, decode_words, places, read_answer,
+        BUILD, MeshWords, NAMES, READ, READ_STL, Request, TOO_LONG, TUBE, WRITE_STL, answer,
+        decode_words, places, read_answer,
     },
     shrink::shrink,
+    stl::HEADER,
 };
 
 /// How many lines of a difference are shown; its file has them all.
@@ -40,7 +42,7 @@ pub struct Options {
 pub struct Tally {
     pub meshes: u64,
     pub plans: u64,
-    pub refusals: [u64; 17],
+    pub refusals: [u64; 20],
     pub empty_parts: u64,
     pub parts: u64,
     pub passed_over: u64,
@@ -48,6 +50,12 @@ pub struct Tally {
     /// Jobs written from files, and their bytes.
     pub jobs: u64,
     pub job_bytes: u64,
+    /// STL files written, and their bytes.
+    pub written: u64,
+    pub stl_bytes: u64,
+    /// STL files listed, and their facets.
+    pub listed: u64,
+    pub facets: u64,
 }
 
 impl Tally {
@@ -64,6 +72,14 @@ impl Tally {
                 self.jobs += 1;
                 self.job_bytes += a[1] as u64;
             }
+            (WRITE_STL, 0) => {
+                self.written += 1;
+                self.stl_bytes += a[1] as u64;
+            }
+            (READ_STL, 0) => {
+                self.listed += 1;
+                self.facets += a[1] as u64;
+            }
             (_, 0) => self.plans += 1,
             (_, number) => self.refusals[number as usize] += 1,
         }
@@ -71,7 +87,7 @@ impl Tally {
 
     pub fn text(&self) -> String {
         let mut out = format!(
-            "meshes {} ({} vertices), plans {}, tube parts {}, empty parts {}, jobs of files {} ({} bytes), passed over {}, refusals",
+            "meshes {} ({} vertices), plans {}, tube parts {}, empty parts {}, jobs of files {} ({} bytes), STL written {} ({} bytes), STL listed {} ({} facets), passed over {}, refusals",
             self.meshes,
             self.vertices,
             self.plans,
@@ -79,6 +95,10 @@ impl Tally {
             self.empty_parts,
             self.jobs,
             self.job_bytes,
+            self.written,
+            self.stl_bytes,
+            self.listed,
+            self.facets,
             self.passed_over
         );
         for (number, count) in self.refusals.iter().enumerate().skip(1) {
@@ -288,10 +308,47 @@ pub fn dump(r: &Request) -> String {
         for (i, words) in tubes.chunks(5).enumerate() {
             out.push_str(&format!("tube {i}: {words:?}\n"));
         }
+    } else if r.call == WRITE_STL {
+        out.push_str(&dump_mesh(r));
+    } else if r.call == READ_STL {
+        out.push_str(&dump_stl(&r.bytes));
     } else if let Some(job) = RawJob::of(&r.bytes) {
         out.push_str(&dump_job(&job));
     }
     out
+}
+
+/// K, V, T and the tubes' records; then what is not 0 in the three buffers that the file is made of, as far as it is short.
+fn dump_mesh(r: &Request) -> String {
+    let Some(mesh) = MeshWords::of(r) else {
+        return "the bytes are not those of the six lengths\n".to_string();
+    };
+    let [k, v, t] = mesh.counts;
+    let mut out = format!("K {k}, V {v}, T {t}\n");
+    for (i, words) in mesh.lists[4].chunks(5).enumerate() {
+        out.push_str(&format!("tube {i}: {words:?}\n"));
+    }
+    for buffer in [0, 3] {
+        let words = mesh.lists[buffer].iter().enumerate();
+        for (i, &w) in words.filter(|(_, w)| **w != 0).take(SHOWN) {
+            let float = f32::from_bits(w);
+            out.push_str(&match buffer {
+                0 => format!("  {} {i}: {w:08X} ({float:?})\n", NAMES[buffer]),
+                _ => format!("  {} {i}: {w}\n", NAMES[buffer]),
+            });
+        }
+    }
+    out
+}
+
+/// The size, and T where the file reaches so far.
+fn dump_stl(file: &[u8]) -> String {
+    let field = file.get(HEADER..HEADER + 4);
+    let t = field.map(|b| u32::from_le_bytes(b.try_into().unwrap()));
+    match t {
+        Some(t) => format!("a file of {} bytes, T {t}\n", file.len()),
+        None => format!("a file of {} bytes, too short for T\n", file.len()),
+    }
 }
 
 fn dump_job(job: &RawJob) -> String {

@@ -3,11 +3,11 @@
 
 use std::{collections::BTreeMap, fs, io, path::Path};
 
-use crate::protocol::{NAMES, Request, places, read_answer};
+use crate::protocol::{CORNERS, FACET_NORMALS, NAMES, Request, STL_BYTES, places, read_answer};
 
 /// The parts that are counted: the words that stand in no buffer (number, counts, carried values, the five words, the length of a part),
-/// the eight buffers, and what calls 3 and 4 hand back.
-pub const PARTS: [&str; 11] = [
+/// the eight buffers, and what calls 3 to 6 hand back.
+pub const PARTS: [&str; 14] = [
     "the answers' own",
     NAMES[0],
     NAMES[1],
@@ -19,6 +19,9 @@ pub const PARTS: [&str; 11] = [
     NAMES[7],
     "parts of call 3",
     "job bytes of call 4",
+    "STL bytes of call 5",
+    "corners of call 6",
+    "normals of call 6",
 ];
 
 /// By the name that `places` gives it, the part of `PARTS`.
@@ -26,6 +29,9 @@ fn part_of(name: &str) -> usize {
     match name {
         "part" => 9,
         "lent bytes" => 10,
+        STL_BYTES => 11,
+        CORNERS => 12,
+        FACET_NORMALS => 13,
         _ => NAMES.iter().position(|&n| n == name).map_or(0, |i| 1 + i),
     }
 }
@@ -80,7 +86,7 @@ impl Count {
 #[derive(Debug, Default, PartialEq)]
 pub struct Differences {
     /// The words of each of `PARTS`.
-    pub parts: [Count; 11],
+    pub parts: [Count; 14],
     /// The answers to each call.
     pub answers: BTreeMap<u8, Count>,
     /// Each answer of another length or kind: the request's number from 0, and the first words of its two answers.

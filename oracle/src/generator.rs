@@ -1,5 +1,5 @@
 //! Makes requests: jobs of every kind, each refusal at its boundary, damaged jobs, lent lengths around each need, tube buffers with any
-//! contents, PDB files, and by themselves jobs out of order and jobs for boxes. Request `i` of a seed does not depend on the others, so that a
+//! contents, PDB files, and by themselves jobs out of order, jobs for boxes, and STL. Request `i` of a seed does not depend on the others, so that a
 //! difference can be made again alone.
 
 use crate::{
@@ -9,8 +9,17 @@ use crate::{
     pdb_files,
     protocol::{BUILD, MOST, MOST_BYTES, PLAN, Request, TUBE, encode_words},
     rng::Rng,
+    stl_files,
     tied::tied,
     tubes::triangles_of,
+};
+
+/// The most that builds are lent here: 34,000 vertices with all that goes with them. A program's arrays have more positions since they list files
+/// too, but these requests stay those of the recorded runs.
+const LENT: [u32; 8] = {
+    let mut most = MOST;
+    most[0] = 3 * 34_000;
+    most
 };
 
 fn next_up(x: f64) -> f64 {
@@ -133,7 +142,7 @@ fn lengths(rng: &mut Rng, bytes: &[u8]) -> [u32; 8] {
         18 => n[..6].fill(0),
         _ => n[one] = rng.below(n[one] + 1),
     }
-    std::array::from_fn(|i| n[i].min(MOST[i] as u64) as u32)
+    std::array::from_fn(|i| n[i].min(LENT[i] as u64) as u32)
 }
 
 fn plan_request(rng: &mut Rng) -> Request {
@@ -249,7 +258,7 @@ fn tube_request(rng: &mut Rng) -> Request {
     }
 }
 
-/// A call that no program knows, or a length that no program has.
+/// A call that no program knows, or a length that no program has. Call 5 is known, but its bytes are no mesh buffers: they are passed over too.
 fn refused_request(rng: &mut Rng) -> Request {
     let mut r = Request {
         call: rng.pick(&[BUILD, PLAN]),
@@ -268,6 +277,11 @@ fn refused_request(rng: &mut Rng) -> Request {
 /// A request to read a PDB file.
 pub fn file_request(seed: u64, index: u64) -> Request {
     pdb_files::request(&mut Rng::new(seed, index))
+}
+
+/// A request to write or to read STL.
+pub fn stl_request(seed: u64, index: u64) -> Request {
+    stl_files::request(&mut Rng::new(seed, index))
 }
 
 /// A build or a plan of a job whose atoms stand out of order.
@@ -301,7 +315,7 @@ fn box_lengths(rng: &mut Rng, bytes: &[u8]) -> [u32; 8] {
         17..=18 => n[5] = n[5].saturating_sub(1),
         _ => n[one] = n[one].saturating_sub(1),
     }
-    std::array::from_fn(|i| n[i].min(MOST[i] as u64) as u32)
+    std::array::from_fn(|i| n[i].min(LENT[i] as u64) as u32)
 }
 
 /// A build, or now and then a plan, of a job with small tubes whose boxes have equal coordinates to choose from, or of an ordinary small one.
@@ -338,6 +352,8 @@ pub enum Kind {
     Orders,
     /// Calls 1 and 2, on small tubes at which the earlier of equal coordinates shows.
     Boxes,
+    /// Calls 5 and 6.
+    Stl,
 }
 
 impl Kind {
@@ -348,6 +364,7 @@ impl Kind {
             "both" => Some(Kind::Both),
             "orders" => Some(Kind::Orders),
             "boxes" => Some(Kind::Boxes),
+            "stl" => Some(Kind::Stl),
             _ => None,
         }
     }
@@ -358,6 +375,7 @@ impl Kind {
             Kind::Files => file_request(seed, index),
             Kind::Orders => order_request(seed, index),
             Kind::Boxes => box_request(seed, index),
+            Kind::Stl => stl_request(seed, index),
             Kind::Both if index % 3 == 2 => file_request(seed, index),
             _ => job_request(seed, index),
         }

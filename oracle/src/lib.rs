@@ -1,5 +1,5 @@
 //! The oracle: document 000 (`ribbon_mesh.rs`) compiled over stand-ins which obey 01, the calls that 01 adds around it, a second reading of
-//! 02's files, a generator of requests, the stream protocol, and the driver that compares another program with it bit for bit.
+//! 02's files (PDB and STL), a generator of requests, the stream protocol, and the driver that compares another program with it bit for bit.
 
 pub mod angles;
 pub mod calls;
@@ -24,6 +24,8 @@ pub mod ribbon_mesh;
 pub mod rng;
 pub mod shrink;
 pub mod stand_ins;
+pub mod stl;
+pub mod stl_files;
 pub mod tied;
 pub mod tubes;
 pub mod wrong;

@@ -2,9 +2,12 @@
 
 use crate::{
     pdb::job_of,
-    protocol::{MOST, MOST_BYTES, READ, Request},
+    protocol::{MOST_BYTES, READ, Request},
     rng::Rng,
 };
+
+/// The most that is lent for a job here. A program takes `MOST_BYTES`, but these requests stay those of the recorded runs.
+const MOST_LENT: u64 = 102_000;
 
 /// Where the numbers of each record stand, by column.
 const ATOM_NUMBERS: [(usize, usize); 5] = [(7, 11), (23, 26), (31, 38), (39, 46), (47, 54)];
@@ -514,10 +517,10 @@ pub fn request(rng: &mut Rng) -> Request {
         Err(_) => rng.pick(&[0, 1, 12, 13, 80, 200]),
     };
     let mut lengths = [0; 8];
-    lengths[0] = room.min(MOST[0] as u64) as u32;
+    lengths[0] = room.min(MOST_LENT) as u32;
     // More than a program has room for, which it passes over.
     if rng.below(500) == 0 {
-        lengths[0] = rng.pick(&[MOST[0] + 1, u32::MAX]);
+        lengths[0] = rng.pick(&[MOST_BYTES as u32 + 1, u32::MAX]);
     }
     Request {
         call: READ,

@@ -1,24 +1,31 @@
 //! The stream protocol of the batch program: requests and answers as bytes, what the lent buffers hold before a call, and the oracle's
 //! own answer to a request. All numbers are big-endian.
 //!
-//! Request: u8 call (1 build, 2 plan, 3 tube, 4 read PDB); eight u32 lengths in places (positions, normals, tags, triangles, tubes, boxes,
-//! scratch words, scratch floats); u32 k; u32 L; L bytes: the job, for call 3 the tube buffer and then the triangle buffer, for call 4 the
-//! file. Call 4 has the length of the lent job bytes in the place of positions, and 0 for the others and for k.
+//! Request: u8 call (1 build, 2 plan, 3 tube, 4 read PDB, 5 write STL, 6 read STL); eight u32 lengths in places (positions, normals, tags,
+//! triangles, tubes, boxes, scratch words, scratch floats); u32 k; u32 L; L bytes: the job, for call 3 the tube buffer and then the triangle
+//! buffer, for calls 4 and 6 the file, for call 5 u32 K, V, T and then the contents of the six mesh buffers, four bytes a place (a NaN word of
+//! any kind is a NaN). Call 4 has the length of the lent job bytes in the place of positions, call 5 that of the lent STL bytes in the place of
+//! scratch words, call 6 those of the lent corner and normal floats in the places of positions and normals. Whatever else stands in the lengths and
+//! in k of calls 4 to 6 is not looked at.
 //! Answer to 1: number (0: a mesh), three words (K, V, T or the carried values), every place of the eight buffers. To 2: the same four
 //! words, tube k's five words, the two scratch buffers. To 3: the length of the part, then its words. To 4: number (0: a job), its size or the
-//! carried value, 0, 0, and every lent byte. Words are four bytes each, but lent bytes are one. `TOO_LONG` alone answers an unknown call, a request past the program's arrays, and a tube call whose bytes are not those of its two lengths.
+//! carried value, 0, 0, and every lent byte. To 5: the same with the file's size, and every lent byte. To 6: number (0: listed), T or the carried
+//! value, 0, 0, every corner float and every normal float. Words are four bytes each, but lent bytes are one. `TOO_LONG` alone answers an
+//! unknown call, a request past the program's arrays, and a call 3 or 5 whose bytes are not those of its lengths.
 
 use std::io::{self, Read};
 
 use crate::{
-    calls::{self, Buffers},
-    pdb,
+    calls::{self, Buffers, Counts},
+    pdb, stl,
 };
 
 pub const BUILD: u8 = 1;
 pub const PLAN: u8 = 2;
 pub const TUBE: u8 = 3;
 pub const READ: u8 = 4;
+pub const WRITE_STL: u8 = 5;
+pub const READ_STL: u8 = 6;
 pub const TOO_LONG: u32 = u32::MAX;
 pub const NAN: u32 = 0x7FC0_0000;
 
@@ -35,9 +42,12 @@ pub const NAMES: [&str; 8] = [
 /// Which of the eight buffers hold floats.
 pub const FLOATS: [bool; 8] = [true, true, false, false, false, true, false, true];
 
-/// The least arrays that a batch program has: 34,000 vertices with their triangles (2V - 4 for one tube), 1,024 tubes, 512 residues.
+/// The facets of the longest file of `MOST_BYTES`: 84 + 50 * 20,969 is 1,048,534.
+pub const MOST_FACETS: u32 = 20_969;
+/// The least arrays that a batch program has: 34,000 vertices with their triangles (2V - 4 for one tube), 1,024 tubes, 512 residues. There are
+/// more positions than the vertices need, so that call 6 lists the corners of every file whole.
 pub const MOST: [u32; 8] = [
-    3 * 34_000,
+    9 * MOST_FACETS,
     3 * 34_000,
     34_000,
     3 * (2 * 34_000 - 4),
@@ -46,7 +56,7 @@ pub const MOST: [u32; 8] = [
     8 * 512,
     32 * 512,
 ];
-/// A file of 16,385 residues fits.
+/// A file of 16,385 residues fits. So many bytes may also be lent, for the job of call 4 and for the STL of call 5.
 pub const MOST_BYTES: usize = 1 << 20;
 
 #[derive(Clone, Debug, PartialEq)]
@@ -95,11 +105,104 @@ impl Request {
         let places = self.lengths[4] as usize + self.lengths[3] as usize;
         match self.call {
             _ if self.bytes.len() > MOST_BYTES => true,
-            READ => past(0),
+            READ | WRITE_STL if self.lent_bytes().is_some_and(|n| n > MOST_BYTES) => true,
+            READ => false,
+            WRITE_STL => (0..6).any(past) || !MeshWords::fit(self),
+            READ_STL => past(0) || past(1),
             BUILD | PLAN | TUBE if (0..8).any(past) => true,
             BUILD | PLAN => false,
             TUBE => self.bytes.len() != 4 * places,
             _ => true,
+        }
+    }
+
+    /// How many bytes are lent, for the calls to which the answer has them.
+    fn lent_bytes(&self) -> Option<usize> {
+        match self.call {
+            READ => Some(self.lengths[0] as usize),
+            WRITE_STL => Some(self.lengths[6] as usize),
+            _ => None,
+        }
+    }
+}
+
+/// What the bytes of call 5 hold: K, V, T, and the contents of the six mesh buffers, floats by their bits.
+#[derive(Clone, Debug, PartialEq)]
+pub struct MeshWords {
+    pub counts: [u32; 3],
+    pub lists: [Vec<u32>; 6],
+}
+
+impl MeshWords {
+    /// Whether the bytes are those of the six lengths.
+    fn fit(r: &Request) -> bool {
+        let places: usize = r.lengths[..6].iter().map(|&n| n as usize).sum();
+        r.bytes.len() == 12 + 4 * places
+    }
+
+    /// None where the bytes are not those of the six lengths.
+    pub fn of(r: &Request) -> Option<MeshWords> {
+        if !MeshWords::fit(r) {
+            return None;
+        }
+        let words = decode_words(&r.bytes);
+        let (counts, mut rest) = words.split_at(3);
+        Some(MeshWords {
+            counts: counts.try_into().unwrap(),
+            lists: std::array::from_fn(|i| {
+                let (list, after) = rest.split_at(r.lengths[i] as usize);
+                rest = after;
+                list.to_vec()
+            }),
+        })
+    }
+
+    pub fn of_buffers(c: Counts, b: &Buffers) -> MeshWords {
+        let bits = |floats: &[f32]| floats.iter().map(|f| f.to_bits()).collect();
+        MeshWords {
+            counts: [c.k, c.v, c.t],
+            lists: [
+                bits(&b.positions),
+                bits(&b.normals),
+                b.tags.clone(),
+                b.triangles.clone(),
+                b.tubes.clone(),
+                bits(&b.boxes),
+            ],
+        }
+    }
+
+    /// As the writer takes them; it is lent no scratch.
+    pub fn buffers(&self) -> (Counts, Buffers) {
+        let floats = |i: usize| self.lists[i].iter().map(|&w| f32::from_bits(w)).collect();
+        let [k, v, t] = self.counts;
+        let buffers = Buffers {
+            positions: floats(0),
+            normals: floats(1),
+            tags: self.lists[2].clone(),
+            triangles: self.lists[3].clone(),
+            tubes: self.lists[4].clone(),
+            boxes: floats(5),
+            words: Vec::new(),
+            floats: Vec::new(),
+        };
+        (Counts { k, v, t }, buffers)
+    }
+
+    /// The request to write them into so many lent bytes.
+    pub fn request(&self, room: u32) -> Request {
+        let mut lengths = [0; 8];
+        for (length, list) in lengths.iter_mut().zip(&self.lists) {
+            *length = list.len() as u32;
+        }
+        lengths[6] = room;
+        let mut bytes = encode_words(&self.counts);
+        bytes.extend(self.lists.iter().flat_map(|list| encode_words(list)));
+        Request {
+            call: WRITE_STL,
+            lengths,
+            k: 0,
+            bytes,
         }
     }
 }
@@ -122,7 +225,7 @@ fn floats_before(n: u32) -> Vec<f32> {
         .collect()
 }
 
-/// What the lent job bytes hold before call 4.
+/// What the lent bytes hold before calls 4 and 5.
 pub fn job_before(n: u32) -> Vec<u8> {
     (0..n).map(|i| ((i + 165) % 256) as u8).collect()
 }
@@ -163,6 +266,8 @@ pub fn answer(r: &Request) -> Vec<u32> {
         BUILD => answer_build(r),
         PLAN => answer_plan(r),
         READ => answer_read(r),
+        WRITE_STL => answer_write_stl(r),
+        READ_STL => answer_read_stl(r),
         _ => answer_tube(r),
     }
 }
@@ -224,6 +329,31 @@ fn answer_read(r: &Request) -> Vec<u32> {
     out
 }
 
+fn answer_write_stl(r: &Request) -> Vec<u32> {
+    let (counts, mesh) = MeshWords::of(r).expect("the bytes fit").buffers();
+    let mut lent = job_before(r.lengths[6]);
+    let (number, value) = match stl::write_stl(&mesh, counts, &mut lent) {
+        Ok(size) => (0, size),
+        Err(e) => (e.number, e.carried[0]),
+    };
+    let mut out = vec![number, value, 0, 0];
+    out.extend(lent.iter().map(|&b| b as u32));
+    out
+}
+
+fn answer_read_stl(r: &Request) -> Vec<u32> {
+    let mut corners = floats_before(r.lengths[0]);
+    let mut normals = floats_before(r.lengths[1]);
+    let (number, value) = match stl::read_stl(&r.bytes, &mut corners, &mut normals) {
+        Ok(t) => (0, t),
+        Err(e) => (e.number, e.carried[0]),
+    };
+    let mut out = vec![number, value, 0, 0];
+    put_floats(&mut out, &corners);
+    put_floats(&mut out, &normals);
+    out
+}
+
 /// Whole words; bytes past the last one are left out.
 pub fn decode_words(bytes: &[u8]) -> Vec<u32> {
     bytes
@@ -238,7 +368,7 @@ pub fn encode_words(words: &[u32]) -> Vec<u8> {
 
 /// An answer to this request as it stands in the stream.
 pub fn encode_answer(r: &Request, words: &[u32]) -> Vec<u8> {
-    if r.call != READ || words.len() < 4 {
+    if r.lent_bytes().is_none() || words.len() < 4 {
         return encode_words(words);
     }
     let mut bytes = encode_words(&words[..4]);
@@ -253,7 +383,8 @@ fn words_after(r: &Request, first: u32) -> usize {
         _ if first == TOO_LONG => 0,
         BUILD => 3 + sum(&r.lengths),
         PLAN => 8 + sum(&r.lengths[6..]),
-        READ => 3,
+        READ | WRITE_STL => 3,
+        READ_STL => 3 + sum(&r.lengths[..2]),
         TUBE => first as usize,
         _ => 0,
     }
@@ -273,24 +404,31 @@ pub fn read_answer(r: &Request, input: &mut impl Read) -> io::Result<Option<Vec<
     }
     let mut words = vec![first];
     words.extend(decode_words(&bytes));
-    if r.call == READ && first != TOO_LONG {
-        let mut lent = vec![0; r.lengths[0] as usize];
+    if let Some(length) = r.lent_bytes().filter(|_| first != TOO_LONG) {
+        let mut lent = vec![0; length];
         if !read_whole(input, &mut lent)? {
             return Ok(None);
         }
         words.extend(lent.iter().map(|&b| b as u32));
     }
     for (name, range) in places(r, words.len()) {
-        if NAMES
-            .iter()
-            .position(|&n| n == name)
-            .is_some_and(|i| FLOATS[i])
-        {
+        if holds_floats(name) {
             words[range].iter_mut().for_each(|w| *w = float_word(*w));
         }
     }
     Ok(Some(words))
 }
+
+/// Whether the part of an answer with this name holds floats.
+fn holds_floats(name: &str) -> bool {
+    let buffer = NAMES.iter().position(|&n| n == name);
+    buffer.is_some_and(|i| FLOATS[i]) || [CORNERS, FACET_NORMALS].contains(&name)
+}
+
+/// What calls 5 and 6 hand back, by name.
+pub const STL_BYTES: &str = "STL bytes";
+pub const CORNERS: &str = "corner floats";
+pub const FACET_NORMALS: &str = "normal floats";
 
 /// The parts of an answer by name, for reports and for the float places.
 pub fn places(r: &Request, length: usize) -> Vec<(&'static str, std::ops::Range<usize>)> {
@@ -303,6 +441,24 @@ pub fn places(r: &Request, length: usize) -> Vec<(&'static str, std::ops::Range<
                 ("size or carried value", 1..2),
                 ("zeros", 2..4),
                 ("lent bytes", 4..length),
+            ];
+        }
+        WRITE_STL => {
+            return vec![
+                ("number", 0..1),
+                ("size or carried value", 1..2),
+                ("zeros", 2..4),
+                (STL_BYTES, 4..length),
+            ];
+        }
+        READ_STL => {
+            let normals = 4 + r.lengths[0] as usize;
+            return vec![
+                ("number", 0..1),
+                ("T or carried value", 1..2),
+                ("zeros", 2..4),
+                (CORNERS, 4..normals),
+                (FACET_NORMALS, normals..length),
             ];
         }
         BUILD => &[0, 1, 2, 3, 4, 5, 6, 7],

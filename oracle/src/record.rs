@@ -5,13 +5,19 @@ use std::{collections::HashMap, fs, io, path::Path};
 
 use crate::{
     cases,
-    generator::{file_request, job_request},
-    protocol::{BUILD, NAMES, PLAN, READ, Request, TOO_LONG, TUBE, answer, encode_answer},
+    generator::{file_request, job_request, stl_request},
+    protocol::{
+        BUILD, NAMES, PLAN, READ, READ_STL, Request, TOO_LONG, TUBE, WRITE_STL, answer,
+        encode_answer,
+    },
+    wrong::{self, Mutation},
 };
 
 const SEED: u64 = 20_250_101;
 /// A request and its answer together, in bytes: meshes of a few tubes.
 const MOST_EACH: usize = 14_000;
+/// The same for STL, where lent bytes are one each: the mesh of two residues and its file, with a few places more.
+const MOST_STL: usize = 11_600;
 
 /// How many generated requests of this call and kind of answer are kept. A part of a tube counts as kind 1.
 fn wanted(call: u8, kind: u32) -> usize {
@@ -28,6 +34,12 @@ fn wanted(call: u8, kind: u32) -> usize {
         (READ, 0) => 50,
         (READ, 12..=14) => 20,
         (READ, 16) => 10,
+        (WRITE_STL, 0) => 9,
+        (WRITE_STL, 17) => 8,
+        (WRITE_STL, 18) => 4,
+        (READ_STL, 0) => 7,
+        (READ_STL, 18) => 4,
+        (READ_STL, 19) => 4,
         _ => 0,
     }
 }
@@ -37,18 +49,50 @@ fn kinds(call: u8) -> std::ops::RangeInclusive<u32> {
     match call {
         TUBE => 0..=1,
         READ => 0..=16,
+        WRITE_STL | READ_STL => 0..=19,
         _ => 0..=11,
     }
 }
 
-/// The bench cases of 01, then generated requests of every kind, then files, and last the job of equal coordinates. What is added stands at the
-/// end, so that the requests before it stay as they are.
+/// The bench cases of 01, then generated requests of every kind, then files, then the job of equal coordinates, and last STL. What is added stands
+/// at the end, so that the requests before it stay as they are.
 pub fn sample() -> Vec<Request> {
     let mut sample = cases::requests();
     keep(&mut sample, &[BUILD, PLAN, TUBE], job_request);
     keep(&mut sample, &[READ], file_request);
     sample.push(cases::build_request(&cases::ties(), [1, 74, 144], 0));
+    keep(&mut sample, &[WRITE_STL, READ_STL], stl_request);
+    keep_what_shows(&mut sample);
     sample
+}
+
+/// Keeps requests of STL until each mistake about it shows in one of them.
+fn keep_what_shows(sample: &mut Vec<Request>) {
+    let shows = |m: Mutation, r: &Request| wrong::with(Some(m), || answer(r)) != answer(r);
+    let about = |m: &&Mutation| m.name().starts_with("Stl");
+    for &m in Mutation::ALL.iter().filter(about) {
+        if sample.iter().any(|r| is_stl(r) && shows(m, r)) {
+            continue;
+        }
+        let requests = (0..).map(|i| stl_request(SEED, i));
+        let mut small = requests.filter(|r| {
+            let a = answer(r);
+            a[0] != TOO_LONG && !too_large(r, &a)
+        });
+        sample.extend(small.find(|r| shows(m, r)));
+    }
+}
+
+fn is_stl(r: &Request) -> bool {
+    [WRITE_STL, READ_STL].contains(&r.call)
+}
+
+/// Whether a request and its answer would take too much room here.
+fn too_large(r: &Request, a: &[u32]) -> bool {
+    match r.call {
+        _ if is_stl(r) => r.encode().len() + encode_answer(r, a).len() > MOST_STL,
+        _ => r.bytes.len() + 4 * a.len() > MOST_EACH + 5000 * (a[0] == 10) as usize,
+    }
 }
 
 /// Keeps requests of these calls until there are enough of each kind of answer.
@@ -66,9 +110,7 @@ fn keep(sample: &mut Vec<Request>, calls: &[u8], request: fn(u64, u64) -> Reques
         }
         let a = answer(&r);
         // Replaying needs no request that a program passes over.
-        if a[0] == TOO_LONG
-            || r.bytes.len() + 4 * a.len() > MOST_EACH + 5000 * (a[0] == 10) as usize
-        {
+        if a[0] == TOO_LONG || too_large(&r, &a) {
             continue;
         }
         let kind = if r.call == TUBE { a[0].min(1) } else { a[0] };
@@ -95,10 +137,18 @@ pub fn files() -> (Vec<u8>, Vec<u8>) {
 fn readme(sample: &[Request]) -> String {
     let requests = sample.len();
     let longest = |f: &dyn Fn(&Request) -> usize| sample.iter().map(f).max().unwrap_or(0);
+    // A length that its call does not look at says nothing.
+    let used = |r: &Request, i: usize| match r.call {
+        READ => i == 0,
+        WRITE_STL => i < 7,
+        READ_STL => i < 2,
+        _ => true,
+    };
+    let length = |r: &Request, i: usize| r.lengths[i] as usize * used(r, i) as usize;
     let lengths: Vec<String> = NAMES
         .iter()
         .enumerate()
-        .map(|(i, name)| format!("{name} {}", longest(&|r| r.lengths[i] as usize)))
+        .map(|(i, name)| format!("{name} {}", longest(&|r| length(r, i))))
         .collect();
     let (lengths, bytes) = (lengths.join(", "), longest(&|r| r.bytes.len()));
     format!(
@@ -111,9 +161,11 @@ the oracle's answers in the same order. They were made by
 
 which always gives the same bytes: first the bench cases of 01 (`oracle/src/cases.rs`), then requests of the generator's seed {SEED}, kept until
 there are enough of each call and each kind of answer: meshes, refusals 1 to 11, plans, parts of a triangle buffer and empty parts; then PDB
-files, jobs and refusals 12, 13, 14 and 16 (a file that gets 15 has 16,385 residues); and last the job `ties` of `cases.rs`, whose box has equal
-coordinates to choose from, +0 and -0.
-The longest buffers lent are, in places (for files the lent job bytes count as positions): {lengths}; the longest bytes of a request {bytes}.
+files, jobs and refusals 12, 13, 14 and 16 (a file that gets 15 has 16,385 residues); then the job `ties` of `cases.rs`, whose box has equal
+coordinates to choose from, +0 and -0; and last binary STL, mesh buffers written and files listed, with refusals 17, 18 and
+19, and requests at which each mistake about STL in `wrong.rs` shows.
+The longest buffers lent are, in places (the lent job bytes of call 4 and the corner floats of call 6 count as positions, its normal floats as normals,
+the lent STL bytes of call 5 as scratch words): {lengths}; the longest bytes of a request {bytes}.
 The oracle's tests fail when it answers otherwise; the program `replay` runs them without it. The cosines and sines behind the meshes are those
 of `docs/ANGLES.md`.
 "

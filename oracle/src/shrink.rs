@@ -1,9 +1,14 @@
 //! Makes a request smaller for as long as it still shows a difference: atoms, segments and chains dropped, coordinates made simple,
-//! lent lengths brought down; of a file lines dropped and cut, and bytes made blank.
+//! lent lengths brought down; of a PDB file lines dropped and cut, and bytes made blank; of mesh buffers tubes dropped and words made 0; of STL
+//! facets cut and words made 0.
+
+use std::ops::Range;
 
 use crate::{
     job::{NONE, RawJob, fix_length},
-    protocol::{BUILD, PLAN, READ, Request, TUBE},
+    protocol::{BUILD, MeshWords, PLAN, READ, READ_STL, Request, TUBE, WRITE_STL},
+    stl::{FACET, HEADER},
+    tubes::{triangles_of, vertices_of},
 };
 
 /// Each try may start a program, so there is an end to them.
@@ -219,8 +224,132 @@ impl<F: FnMut(&Request) -> bool> Shrinker<F> {
         }
     }
 
+    /// Bytes made 0, in stretches, long ones first; `unit` is 1 for bytes, 4 for words.
+    fn clear(&mut self, bytes: Range<usize>, unit: usize) {
+        let mut stretch = (bytes.len() / unit).next_power_of_two() * unit;
+        while stretch >= unit {
+            for at in bytes.clone().step_by(stretch) {
+                let mut r = self.best.clone();
+                r.bytes[at..(at + stretch).min(bytes.end)].fill(0);
+                self.take(r);
+            }
+            stretch /= 2;
+        }
+    }
+
+    /// The mesh with this change, lent as much as before, or so many facets less.
+    fn take_mesh(
+        &mut self,
+        facets: u32,
+        change: impl FnOnce(&mut MeshWords) -> Option<()>,
+    ) -> bool {
+        let Some(mut mesh) = MeshWords::of(&self.best) else {
+            return false;
+        };
+        if change(&mut mesh).is_none() {
+            return false;
+        }
+        let room = self.best.lengths[6];
+        let less = room.saturating_sub(FACET as u32 * facets);
+        self.take(mesh.request(less)) || self.take(mesh.request(room))
+    }
+
+    /// Tubes whose record says where their vertices and triangles stand, with all that is theirs; the tubes after them move up.
+    fn drop_tubes(&mut self) {
+        let tubes = |s: &Self| MeshWords::of(&s.best).map_or(0, |m| m.lists[4].len() / 5);
+        for i in (0..tubes(self)).rev() {
+            let mesh = MeshWords::of(&self.best).expect("it has tubes");
+            let n = mesh.lists[4][5 * i + 2];
+            if (1..=16_384).contains(&n) {
+                let facets = triangles_of(n as u64) as u32;
+                self.take_mesh(facets, |mesh| drop_tube(mesh, i));
+            }
+        }
+    }
+
+    /// Places past what K, V and T need.
+    fn drop_spare_places(&mut self) {
+        for buffer in 0..6 {
+            self.take_mesh(0, |mesh| {
+                let [k, v, t] = mesh.counts.map(|n| n as usize);
+                let need = [3 * v, 3 * v, v, 3 * t, 5 * k, 6 * k][buffer];
+                mesh.lists[buffer].truncate(need);
+                Some(())
+            });
+        }
+    }
+
+    /// The words of mesh buffers made 0, the contents of whole buffers first.
+    fn clear_mesh(&mut self) {
+        let mut from = 12;
+        for buffer in 0..6 {
+            let to = from + 4 * self.best.lengths[buffer] as usize;
+            if to <= self.best.bytes.len() {
+                self.clear(from..to, 4);
+            }
+            from = to;
+        }
+    }
+
+    /// Facets of an STL file, in stretches, with their places in the lists; the count goes with them, or stays.
+    fn cut_facets(&mut self) {
+        let facets = |s: &Self| s.best.bytes.len().saturating_sub(HEADER + 4) / FACET;
+        let mut stretch = facets(self).next_power_of_two();
+        while stretch > 0 {
+            let mut at = 0;
+            while at < facets(self) {
+                let cut = stretch.min(facets(self) - at);
+                let tries = [(true, true), (true, false), (false, true), (false, false)];
+                let mut cuts = tries.map(|(count, lists)| self.without(at, cut, count, lists));
+                if !cuts.iter_mut().any(|r| self.take(r.clone())) {
+                    at += stretch;
+                }
+            }
+            stretch /= 2;
+        }
+    }
+
+    /// The request without these facets.
+    fn without(&self, at: usize, cut: usize, count: bool, lists: bool) -> Request {
+        let mut r = self.best.clone();
+        let from = HEADER + 4 + FACET * at;
+        r.bytes.drain(from..from + FACET * cut);
+        let field = &mut r.bytes[HEADER..HEADER + 4];
+        let t = u32::from_le_bytes((&*field).try_into().unwrap());
+        if count {
+            field.copy_from_slice(&t.wrapping_sub(cut as u32).to_le_bytes());
+        }
+        if lists {
+            r.lengths[0] = r.lengths[0].saturating_sub(9 * cut as u32);
+            r.lengths[1] = r.lengths[1].saturating_sub(3 * cut as u32);
+        }
+        r
+    }
+
+    fn shrink_mesh(&mut self) {
+        self.drop_tubes();
+        self.drop_spare_places();
+        self.clear_mesh();
+        self.lower_lengths_of(&[6, 7]);
+    }
+
+    fn shrink_stl(&mut self) {
+        self.cut_facets();
+        for shift in (0..18).rev() {
+            let mut r = self.best.clone();
+            r.bytes.truncate(r.bytes.len().saturating_sub(1 << shift));
+            self.take(r);
+        }
+        self.lower_lengths();
+        self.clear(0..self.best.bytes.len(), 1);
+    }
+
     fn lower_lengths(&mut self) {
-        for i in 0..8 {
+        self.lower_lengths_of(&[0, 1, 2, 3, 4, 5, 6, 7]);
+    }
+
+    fn lower_lengths_of(&mut self, which: &[usize]) {
+        for &i in which {
             for shift in (0..=16).rev() {
                 let mut r = self.best.clone();
                 r.lengths[i] = r.lengths[i].saturating_sub(1 << shift);
@@ -232,6 +361,41 @@ impl<F: FnMut(&Request) -> bool> Shrinker<F> {
             ..self.best.clone()
         });
     }
+}
+
+/// Takes a tube out of the buffers with its vertices, triangles and box; none where they do not hold them.
+fn drop_tube(mesh: &mut MeshWords, i: usize) -> Option<()> {
+    let record: Vec<u32> = mesh.lists[4].get(5 * i..5 * i + 5)?.to_vec();
+    let (n, v, t) = (record[2] as u64, record[3], record[4]);
+    let (vertices, triangles) = (vertices_of(n) as u32, triangles_of(n) as u32);
+    let places = [
+        (0, 3 * v as usize, 3 * vertices as usize),
+        (1, 3 * v as usize, 3 * vertices as usize),
+        (2, v as usize, vertices as usize),
+        (3, 3 * t as usize, 3 * triangles as usize),
+        (4, 5 * i, 5),
+        (5, 6 * i, 6),
+    ];
+    let held =
+        |&(buffer, at, length): &(usize, usize, usize)| at + length <= mesh.lists[buffer].len();
+    if !places.iter().all(held) {
+        return None;
+    }
+    for (buffer, at, length) in places {
+        mesh.lists[buffer].drain(at..at + length);
+    }
+    for corner in mesh.lists[3].iter_mut().skip(3 * t as usize) {
+        *corner = corner.wrapping_sub(vertices);
+    }
+    for later in mesh.lists[4].chunks_exact_mut(5).skip(i) {
+        later[3] = later[3].wrapping_sub(vertices);
+        later[4] = later[4].wrapping_sub(triangles);
+    }
+    let [k, all_vertices, all_triangles] = &mut mesh.counts;
+    *k = k.wrapping_sub(1);
+    *all_vertices = all_vertices.wrapping_sub(vertices);
+    *all_triangles = all_triangles.wrapping_sub(triangles);
+    Some(())
 }
 
 /// The smallest request found for which `shows` holds; `shows` holds for `r`.
@@ -252,6 +416,14 @@ pub fn shrink(r: &Request, shows: impl FnMut(&Request) -> bool) -> Request {
             s.lower_lengths();
             s.simplify_lines();
             s.drop_lines();
+            return s.best;
+        }
+        WRITE_STL => {
+            s.shrink_mesh();
+            return s.best;
+        }
+        READ_STL => {
+            s.shrink_stl();
             return s.best;
         }
         _ => return s.best,

@@ -3,10 +3,11 @@
 use oracle::{
     cases::{build_request, plan_request, tube_request, two_residues},
     differences::{Count, Differences, PARTS, Recording, differences},
-    protocol::{READ, Request, answer, encode_answer},
+    protocol::{READ, READ_STL, Request, WRITE_STL, answer, encode_answer},
 };
 
-/// One request of each call. The file has no line that is read, so its job is the 13 bytes of the empty one, in 20 lent.
+/// One request of each call. The PDB file has no line that is read, so its job is the 13 bytes of the empty one, in 20 lent. The mesh is that of no
+/// tubes, in 90 lent bytes, and its file has no facet, for lists of 9 and 3 floats.
 fn requests() -> Vec<Request> {
     let read = Request {
         call: READ,
@@ -14,11 +15,25 @@ fn requests() -> Vec<Request> {
         k: 0,
         bytes: b"END\n".to_vec(),
     };
+    let write_stl = Request {
+        call: WRITE_STL,
+        lengths: [0, 0, 0, 0, 0, 0, 90, 0],
+        k: 0,
+        bytes: vec![0; 12],
+    };
+    let read_stl = Request {
+        call: READ_STL,
+        lengths: [9, 3, 0, 0, 0, 0, 0, 0],
+        k: 0,
+        bytes: vec![0; 84],
+    };
     vec![
         build_request(&two_residues(), [1, 74, 144], 0),
         plan_request(&two_residues(), 0),
         tube_request(2, 0, 432, 0),
         read,
+        write_stl,
+        read_stl,
     ]
 }
 
@@ -36,6 +51,8 @@ const BUILD_WORDS: usize = 4 + 222 + 222 + 74 + 432 + 5 + 6 + 16 + 64;
 const PLAN_WORDS: usize = 4 + 5 + 16 + 64;
 const TUBE_WORDS: usize = 1 + 432;
 const READ_AT: usize = 4 * (BUILD_WORDS + PLAN_WORDS + TUBE_WORDS);
+const WRITE_STL_AT: usize = READ_AT + 4 * 4 + 20;
+const READ_STL_AT: usize = WRITE_STL_AT + 4 * 4 + 90;
 
 /// What differs when one bit of this byte of the answers does.
 fn with_bit(at: usize) -> Differences {
@@ -62,8 +79,23 @@ fn nothing_differs_from_itself() {
             .all(|c| *c == Count { all: 1, differ: 0 })
     );
     // Every word is in some part, lent bytes as one each: the whole file.
-    assert_eq!(recording().answers.len(), READ_AT + 4 * 4 + 20);
-    let all: [u64; 11] = [4 + 9 + 1 + 4, 222, 222, 74, 432, 5, 6, 32, 128, 432, 20];
+    assert_eq!(recording().answers.len(), READ_STL_AT + 4 * (4 + 9 + 3));
+    let all: [u64; 14] = [
+        4 + 9 + 1 + 4 + 4 + 4,
+        222,
+        222,
+        74,
+        432,
+        5,
+        6,
+        32,
+        128,
+        432,
+        20,
+        90,
+        9,
+        3,
+    ];
     assert_eq!(found.parts.map(|c| c.all), all);
 }
 
@@ -73,7 +105,7 @@ fn a_changed_box_word_is_counted_under_boxes_and_nowhere_else() {
     assert_eq!(counted(&found), ["boxes"]);
     assert_eq!(found.parts[6], Count { all: 6, differ: 1 });
     assert_eq!(found.answers[&1], Count { all: 1, differ: 1 });
-    assert!((2..=4).all(|call| found.answers[&call].differ == 0));
+    assert!((2..=6).all(|call| found.answers[&call].differ == 0));
     assert!(found.unlike.is_empty());
     let text = found.text();
     assert!(
@@ -114,8 +146,20 @@ fn each_part_is_counted_under_its_name() {
     for (word, part) in words {
         assert_eq!(counted(&with_bit(4 * word)), [part], "word {word}");
     }
-    let last = recording().answers.len() - 1;
-    assert_eq!(counted(&with_bit(last)), ["job bytes of call 4"]);
+    let bytes = [
+        (WRITE_STL_AT - 1, "job bytes of call 4"),
+        (WRITE_STL_AT + 7, "the answers' own"),
+        (WRITE_STL_AT + 16, "STL bytes of call 5"),
+        (READ_STL_AT - 1, "STL bytes of call 5"),
+        (READ_STL_AT + 7, "the answers' own"),
+        (READ_STL_AT + 16, "corners of call 6"),
+        (READ_STL_AT + 4 * 13 - 1, "corners of call 6"),
+        (READ_STL_AT + 4 * 13, "normals of call 6"),
+        (recording().answers.len() - 1, "normals of call 6"),
+    ];
+    for (at, part) in bytes {
+        assert_eq!(counted(&with_bit(at)), [part], "byte {at}");
+    }
 }
 
 /// 01: 'all NaNs count as equal'.
@@ -142,8 +186,8 @@ fn another_request_is_told() {
     };
     assert!(told(|r| r[2].k = 1).contains("request 2 "));
     assert!(told(|r| r[0].bytes[0] = 1).contains("request 0 "));
-    assert!(told(|r| drop(r.pop())).contains("request 3 "));
-    assert!(told(|r| r.push(r[0].clone())).contains("request 4 "));
+    assert!(told(|r| drop(r.pop())).contains("request 5 "));
+    assert!(told(|r| r.push(r[0].clone())).contains("request 6 "));
 }
 
 /// Its words stand in other places, or mean something else, and are not counted.
@@ -176,7 +220,7 @@ fn answers_that_end_early_or_late_are_told() {
     cut.answers.pop();
     let why = differences(&recording(), &cut).expect_err("no whole answer");
     assert!(
-        why.starts_with("NEW has no whole answer to request 3 "),
+        why.starts_with("NEW has no whole answer to request 5 "),
         "{why}"
     );
     let mut more = recording();

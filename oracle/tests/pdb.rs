@@ -4,7 +4,7 @@ use oracle::{
     generator::file_request,
     job::{RawJob, Refusal, decode},
     pdb::{job_of, read_pdb},
-    protocol::{MOST, TOO_LONG, answer, job_before},
+    protocol::{MOST_BYTES, READ, Request, TOO_LONG, answer, job_before},
 };
 
 /// An ATOM line of 80 columns with its fields as given; `residue` is chain, number and insertion code in columns 22 to 27.
@@ -533,13 +533,29 @@ fn room_for_the_job() {
     assert_eq!(read_pdb(b"", &mut []), Err(Refusal::new(16, 13)));
 }
 
+/// A program has room for 1,048,576 lent bytes, so that the job of every file it takes fits.
+#[test]
+fn lent_bytes_at_their_limit() {
+    let lent = |n: usize| {
+        answer(&Request {
+            call: READ,
+            lengths: [n as u32, 0, 0, 0, 0, 0, 0, 0],
+            k: 0,
+            bytes: file(&three()),
+        })
+    };
+    assert_eq!(lent(MOST_BYTES)[..4], [0, 13 + 1 + 6 * 33, 0, 0]);
+    assert_eq!(lent(MOST_BYTES).len(), 4 + MOST_BYTES);
+    assert_eq!(lent(MOST_BYTES + 1), [TOO_LONG]);
+}
+
 #[test]
 fn generated_files_give_every_answer_and_jobs_that_pass() {
     let mut seen = [0; 17];
     for i in 0..6000 {
         let r = file_request(23, i);
         let a = answer(&r);
-        if r.lengths[0] > MOST[0] {
+        if r.lengths[0] as usize > MOST_BYTES {
             assert_eq!(a, [TOO_LONG]);
             continue;
         }

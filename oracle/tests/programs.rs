@@ -50,7 +50,12 @@ fn compare(kind: &str, program: &[&str], jobs: &str, out: &Path) -> Output {
 
 #[test]
 fn the_oracle_equals_itself() {
-    for (kind, jobs) in [("both", "5000"), ("orders", "500"), ("boxes", "500")] {
+    for (kind, jobs) in [
+        ("both", "5000"),
+        ("orders", "500"),
+        ("boxes", "500"),
+        ("stl", "2000"),
+    ] {
         let output = compare(kind, &[ORACLE, "answer"], jobs, &folder("itself"));
         let text = String::from_utf8(output.stdout).unwrap();
         assert!(output.status.success(), "{text}");
@@ -128,10 +133,41 @@ fn a_wrong_box_is_caught_and_its_job_shrunk() {
 }
 
 #[test]
+fn a_wrong_writer_of_stl_is_caught_and_its_mesh_shrunk() {
+    let text = difference_of("stl", "StlDivided", &folder("wrong-facets"));
+    assert!(
+        text.contains("first difference: STL bytes, place"),
+        "{text}"
+    );
+    // One tube of two residues, and but a few coordinates and corners that are not 0.
+    assert!(
+        text.contains("tube 0: [0, 0, 2, 0, 0]") && !text.contains("tube 1:"),
+        "{text}"
+    );
+    assert!(text.matches("  positions ").count() < 8, "{text}");
+    assert!(text.matches("  triangles ").count() < 8, "{text}");
+    let text = difference_of("stl", "StlNextTubesCorner", &folder("wrong-corner"));
+    assert!(text.contains("expected 00000011 (17,"), "{text}");
+    assert_eq!(text.matches("  triangles ").count(), 1, "{text}");
+}
+
+#[test]
+fn a_wrong_reader_of_stl_is_caught_and_its_file_shrunk() {
+    let text = difference_of("stl", "StlNormalsAsCorners", &folder("wrong-lists"));
+    assert!(text.contains("first difference: corner floats"), "{text}");
+    assert!(text.contains("a file of 134 bytes, T 1\n"), "{text}");
+    let text = difference_of("stl", "StlEighteenFirst", &folder("wrong-order"));
+    assert!(text.contains("expected 00000013 (19,"), "{text}");
+    assert!(text.contains("a file of 84 bytes, T "), "{text}");
+}
+
+#[test]
 fn a_program_that_ends_early_is_caught() {
     for program in [&["true"][..], &["echo", "no"]] {
-        let output = compare("both", program, "50", &folder("early"));
-        assert_eq!(output.status.code(), Some(1), "{program:?}");
+        for kind in ["both", "stl"] {
+            let output = compare(kind, program, "50", &folder("early"));
+            assert_eq!(output.status.code(), Some(1), "{program:?}");
+        }
     }
 }
 
@@ -192,6 +228,11 @@ fn what_two_recordings_differ_in() {
 fn requests_that_are_passed_over() {
     let good = plan_request(&two_residues(), 0);
     let unknown = Request {
+        call: 255,
+        ..good.clone()
+    };
+    // Known, but these bytes are no mesh buffers.
+    let no_mesh = Request {
         call: 5,
         ..good.clone()
     };
@@ -200,14 +241,14 @@ fn requests_that_are_passed_over() {
     // A word is missing at the end of the triangles.
     let mut short = tube_request(2, 0, 432, 0);
     short.bytes.truncate(4 * 436);
-    let input: Vec<u8> = [&unknown, &too_long, &short, &good]
+    let input: Vec<u8> = [&unknown, &no_mesh, &too_long, &short, &good]
         .iter()
         .flat_map(|r| r.encode())
         .collect();
-    let mut expected = vec![u32::MAX; 3];
+    let mut expected = vec![u32::MAX; 4];
     expected.extend(answer(&good));
     assert_eq!(run(&["answer"], &input).stdout, encode_words(&expected));
-    assert_eq!(expected[3..7], [0, 1, 74, 144]);
+    assert_eq!(expected[4..8], [0, 1, 74, 144]);
 }
 
 #[test]

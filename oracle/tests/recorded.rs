@@ -4,7 +4,9 @@ use std::{collections::HashSet, fs, path::PathBuf};
 
 use oracle::{
     angles,
-    protocol::{BUILD, PLAN, READ, Request, TUBE, answer, encode_answer, read_answer},
+    protocol::{
+        BUILD, PLAN, READ, READ_STL, Request, TUBE, WRITE_STL, answer, encode_answer, read_answer,
+    },
     record,
     wrong::{self, Mutation},
 };
@@ -43,17 +45,37 @@ fn they_hold_every_kind_and_are_small() {
     wanted.extend((0..=10).map(|n| (PLAN, n)));
     wanted.extend([(TUBE, 0), (TUBE, 1)]);
     wanted.extend([0, 12, 13, 14, 16].map(|n| (READ, n)));
+    wanted.extend([0, 17, 18].map(|n| (WRITE_STL, n)));
+    wanted.extend([0, 18, 19].map(|n| (READ_STL, n)));
     assert_eq!(kinds, wanted);
 }
 
+/// Whether the answer to this request is another one with this mistake.
+fn shows(m: Mutation, r: &Request) -> bool {
+    wrong::with(Some(m), || answer(r)) != answer(r)
+}
+
 #[test]
-fn the_last_one_shows_the_earlier_of_equals() {
+fn the_last_build_shows_the_earlier_of_equals() {
     let sample = record::sample();
-    let shows = |r: &Request| {
-        let later = Some(Mutation::BoxLaterOfEquals);
-        wrong::with(later, || answer(r)) != answer(r)
-    };
-    assert!(shows(&sample[sample.len() - 1]));
+    let last = sample.iter().rfind(|r| r.call == BUILD).expect("a build");
+    assert!(shows(Mutation::BoxLaterOfEquals, last));
+}
+
+/// They are few, and yet a program without Rust at hand finds each mistake about STL by them.
+#[test]
+fn each_mistake_about_stl_shows_in_them() {
+    let sample = record::sample();
+    let stl = sample
+        .iter()
+        .filter(|r| [WRITE_STL, READ_STL].contains(&r.call));
+    let stl: Vec<&Request> = stl.collect();
+    assert!((36..=50).contains(&stl.len()), "{} of STL", stl.len());
+    for &m in Mutation::ALL {
+        if m.name().starts_with("Stl") {
+            assert!(stl.iter().any(|r| shows(m, r)), "{}", m.what());
+        }
+    }
 }
 
 #[test]
