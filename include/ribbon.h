@@ -1,12 +1,13 @@
-/* The proved ribbon builder for C and C++: from a PDB file to a job, from a job to a mesh, in buffers that the caller lends. A host needs no other file.
+/* The proved ribbon builder for C and C++: from a PDB file to a job, from a job to a mesh, from a mesh to a binary STL file, in buffers that the caller lends.
+ * A host needs no other file.
  *
  * Link target/staticlib/libribbon_c.a, which `rt staticlib ribbon_c` writes. It is for x86-64 Linux alone, and of the C library it takes memcpy and memset.
  *
  * WHAT IS DEMANDED. A buffer is a pointer and its length in places (bytes, words or floats). The pointer is good for that length, and no two buffers of one
  * call overlap, the answer among them; an empty buffer may be null. Nothing else is demanded: every file, every job and every length has an answer. A refused
  * call changes no output buffer, and places past what a call writes stay as they were. What each call answers, and what it leaves in every buffer, is set out
- * in crates/promises/specs/Calls.antt, for ribbon_tube in crates/tube_call/specs/Part.antt, for the reader in crates/pdb_reader/specs/Call.antt, as words in
- * crates/ribbon_c/specs/Words.antt, and proved.
+ * in crates/promises/specs/Calls.antt, for ribbon_tube in crates/tube_call/specs/Part.antt, for the other three in specs/Call.antt of crates/pdb_reader,
+ * crates/stl_writer and crates/stl_reader, as words in crates/ribbon_c/specs/Words.antt, and proved.
  *
  * THE ORDER OF A HOST'S CALLS (examples/host.c is such a host):
  *   1. ribbon_read_pdb with no room, null and 0: of a right file RIBBON_NO_JOB_ROOM carries the job's size; any other refusal says what is wrong with the file.
@@ -14,6 +15,7 @@
  *   3. ribbon_plan with scratch for RIBBON_RESIDUES(job): the mesh will have K tubes, V vertices and T triangles.
  *   4. ribbon_build with room for K, V and T: the mesh. A host whose buffers have a fixed size can leave out step 3: RIBBON_NO_ROOM carries K, V and T.
  *   5. ribbon_tube for the triangles of one tube.
+ *   6. ribbon_write_stl with room for RIBBON_STL_SIZE(T) bytes: the file that a print shop takes (examples/stl.c). ribbon_read_stl lists such a file.
  *
  * A JOB has 13 + C + 9 S + 33 A bytes, its numbers big-endian. A host that has no PDB file, or that hides a chain, writes it itself:
  *   byte  0  u32  how many bytes follow these four
@@ -43,16 +45,29 @@
  * The scratch is RIBBON_SCRATCH_WORDS(R) words and RIBBON_SCRATCH_FLOATS(R) floats, whatever they hold. Refusals 1 to 9 leave it as it was; after any other
  * answer these places are 0.
  *
- * AN ANSWER is words: 0 and what was asked for, or a refusal's number (enum ribbon_refusal) and what it carries, with 0 where there is nothing. K, V, T and a
- * job's size always fit. Of a line's number the low 32 bits are given, so past 4,294,967,295 lines it wraps.
+ * A BINARY STL FILE has RIBBON_STL_SIZE(T) = 84 + 50 T bytes, its numbers little-endian:
+ *   byte  0  80 bytes, the header: all 0 where we write; the reader skips it
+ *   byte 80  u32  T, the facets
+ *   byte 84  T facets of 50 bytes: the normal's x, y, z, then x, y, z of the three corners, each the 32 bits of a float, and a u16, which is 0 where we write;
+ *            the reader skips it
+ * The facets are the mesh's triangles in order, so they wind INWARD too. A facet's normal is that of its own plane, by the corners' order, so it points inward
+ * as well; it has nothing to do with the mesh's normals. It is 0, 0, 0 where the corners' cross has length 0. Every NaN is written 7FC00000.
+ *
+ * MESH BUFFERS ARE CONSISTENT, for K, V and T, when all six have room for them, V is at most RIBBON_MAX_VERTICES, and of every tube: the kind is 0 to 2, n is 2
+ * to RIBBON_MAX_RESIDUES, first vertex and first triangle are how many vertices and triangles the tubes before it have, 64n - 54 and 128n - 112 each, and every
+ * corner of its triangles is a vertex of its own; and all tubes together have V and T. The first residue, the tags and the floats may be anything. What ribbon_build wrote is consistent.
+ *
+ * AN ANSWER is words: 0 and what was asked for, or a refusal's number (enum ribbon_refusal) and what it carries, with 0 where there is nothing. K, V, T and the
+ * size of a job or of an STL file always fit. Of a line's number the low 32 bits are given, so past 4,294,967,295 lines it wraps.
  *
  * THREADS. The library has no variables and allocates nothing: any number of threads may call it at once, each on buffers of its own.
  *
- * THE STACK is bounded by no theorem. ribbon_read_pdb keeps tables there and wants 700 KiB: it was seen to use 674,488 bytes. ribbon_plan and ribbon_build
- * want 32 KiB: they were seen to use less than 8. A thread with too little crashes. glibc gives a thread 8 MiB, musl 128 KiB: where a thread is to read files,
- * give it more, by pthread_attr_setstacksize(&attributes, 1 << 20).
+ * THE STACK is bounded by no theorem. ribbon_read_pdb keeps tables there and wants 700 KiB: it was seen to use 674,488 bytes. All other calls want 32 KiB:
+ * ribbon_plan and ribbon_build were seen to use less than 8, ribbon_write_stl and ribbon_read_stl less than 1. A thread with too little crashes. glibc gives a
+ * thread 8 MiB, musl 128 KiB: where a thread is to read files, give it more, by pthread_attr_setstacksize(&attributes, 1 << 20).
  *
- * A NaN in a place that no call writes: the proofs know one NaN, so they do not speak of its bits. The code does not touch the place. */
+ * A NaN in a place that no call writes: the proofs know one NaN, so they do not speak of its bits. The code does not touch the place. For the same reason a
+ * NaN in an STL file is listed as a NaN, and its bits are not promised; they were seen to be 7FC00000, whatever the file's were. */
 #ifndef RIBBON_H
 #define RIBBON_H
 
@@ -77,8 +92,12 @@ extern "C" {
 
 enum ribbon_kind { RIBBON_COIL = 0, RIBBON_HELIX = 1, RIBBON_SHEET = 2 };
 
-/* The refusals in the order of checking: of several faults the first here is given. ribbon_build gives 1 to 11, ribbon_plan 1 to 10, and ribbon_read_pdb 12 to
- * 16, where the first line at fault decides among 12 to 14. No job that ribbon_read_pdb wrote is refused by 1 to 8. */
+/* The bytes of a binary STL file of t facets. */
+#define RIBBON_STL_SIZE(t) (84 + 50 * (size_t)(t))
+
+/* The refusals in the order of checking: of several faults the first here is given, but for ribbon_read_stl. ribbon_build gives 1 to 11, ribbon_plan 1 to 10, and ribbon_read_pdb 12 to
+ * 16, where the first line at fault decides among 12 to 14. No job that ribbon_read_pdb wrote is refused by 1 to 8. ribbon_write_stl gives 17 and then 18,
+ * ribbon_read_stl 19 and then 18. */
 enum ribbon_refusal {
     /* The job has under 13 bytes, or its length field differs from the bytes after it. Carries 0. Hand over the whole job, and no byte more. */
     RIBBON_BAD_LENGTH = 1,
@@ -112,7 +131,13 @@ enum ribbon_refusal {
     /* The file has more than 255 chains, 16,384 residues, 65,535 segments or 65,535 atoms. Carries 0. Make several files of it. */
     RIBBON_PAST_LIMITS = 15,
     /* The job buffer is too short. Carries the size needed. Lend so many bytes. */
-    RIBBON_NO_JOB_ROOM = 16
+    RIBBON_NO_JOB_ROOM = 16,
+    /* The mesh buffers are not consistent for K, V and T. Carries 0. Hand over what ribbon_build left, and the K, V and T that it answered. */
+    RIBBON_INCONSISTENT = 17,
+    /* A lent buffer is too short. Of the writer it carries the file's size: lend so many bytes. Of the reader it carries T: lend 9 T and 3 T floats. */
+    RIBBON_NO_STL_ROOM = 18,
+    /* The file is not 84 + 50 T bytes long, T being its own count, or it has under 84. Carries 0. Fetch it anew; an STL file in text (ASCII) is not read. */
+    RIBBON_NOT_STL = 19
 };
 
 /* Builds the mesh of a job. For V vertices, T triangles and K tubes it needs 3V positions, 3V normals, V tags, 3T triangle corners,
@@ -135,6 +160,18 @@ size_t ribbon_tube(const uint32_t *tubes, size_t tubes_len, const uint32_t *tria
  * refused file changes no place of it, and places past the job stay. answer: 0, the job's size, 0, 0; or a refusal's number, 12 to 16, what
  * it carries (the line, counted from 1, for 12 to 14, 0 for 15, the size needed for 16), 0, 0. RIBBON_MAX_JOB bytes hold every job. */
 void ribbon_read_pdb(const uint8_t *file, size_t file_len, uint8_t *job_out, size_t job_out_len, uint32_t answer[4]);
+
+/* Writes the mesh of k tubes, v vertices and t triangles as a binary STL file to the front of stl. The six mesh buffers are only read; any k, v and t may be
+ * handed over with any buffers, and none is taken on trust. A refusal changes no place of stl, and places past the file stay. answer: 0, the file's size, 0, 0;
+ * or RIBBON_INCONSISTENT, 0, 0, 0; or RIBBON_NO_STL_ROOM, the size needed, 0, 0, so that null and 0 for stl ask for it. */
+void ribbon_write_stl(const float *positions, size_t positions_len, const float *normals, size_t normals_len, const uint32_t *tags, size_t tags_len,
+                      const uint32_t *triangles, size_t triangles_len, const uint32_t *tubes, size_t tubes_len, const float *boxes, size_t boxes_len,
+                      size_t k, size_t v, size_t t, uint8_t *stl, size_t stl_len, uint32_t answer[4]);
+
+/* Lists the facets of a binary STL file, ours or another program's: 9 floats a facet in corners, x, y, z of each of the three, and 3 in normals, as they stand
+ * in the file. A refusal changes no place of either, and places past the lists stay. answer: 0, T, 0, 0; or RIBBON_NOT_STL, 0, 0, 0; or RIBBON_NO_STL_ROOM, T,
+ * 0, 0. A file that ribbon_write_stl wrote is listed bit for bit. */
+void ribbon_read_stl(const uint8_t *file, size_t file_len, float *corners, size_t corners_len, float *normals, size_t normals_len, uint32_t answer[4]);
 
 #ifdef __cplusplus
 }

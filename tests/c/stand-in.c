@@ -2,7 +2,11 @@
  * file and every job is refused, by 1.
  * Where the variable TOUCH is set it plays a library that breaks its promise, for examples/host.c to find out: any file is a job of two residues, the plan has
  * 74 vertices, and a build is refused by 11 and changes one byte all the same: in the output buffer of that number, 0 to 5, or right behind it where TOUCH ends
- * in '+', or right before it where it ends in '-'. */
+ * in '+', or right before it where it ends in '-'.
+ * Where the variable STL is set it plays a library with one mesh, for examples/stl.c: any file is that job, and its mesh is 74 vertices at the origin and 144
+ * triangles, each three times vertex 0. STL=right keeps every promise. STL=file, corners or normals changes a byte of that buffer in a call that is refused, or
+ * behind or before it where '+' or '-' follows; STL=positions changes the mesh; STL=float writes a file with another float; STL=size answers a size that is not
+ * the file's; STL=read changes the file that is listed; STL=nan lists a NaN as it stands in the file; STL=empty has a mesh of nothing. */
 #include "ribbon.h"
 #include <stdlib.h>
 #include <string.h>
@@ -15,6 +19,19 @@ static void say(uint32_t *answer, size_t n, uint32_t number, uint32_t a, uint32_
     answer[0] = number, answer[1] = a, answer[2] = b, answer[3] = c;
 }
 
+/* whether STL is this word, or begins with it where it ends in '+' or '-' */
+static int plays(const char *word) {
+    const char *stl = getenv("STL");
+    return stl && !strncmp(stl, word, strlen(word)) && strspn(stl + strlen(word), "+-") == strlen(stl + strlen(word));
+}
+
+/* changes a byte in a buffer, behind it or before it, as the variable's end says */
+static void touch_byte(const char *variable, void *at, size_t size) {
+    uint8_t *buffer = at;
+    buffer += strchr(variable, '+') ? (ptrdiff_t)size : strchr(variable, '-') ? -1 : (ptrdiff_t)(size / 2);
+    *buffer ^= 1;
+}
+
 void ribbon_build(const uint8_t *job, size_t job_len, float *positions, size_t positions_len, float *normals, size_t normals_len,
                   uint32_t *tags, size_t tags_len, uint32_t *triangles, size_t triangles_len, uint32_t *tubes, size_t tubes_len,
                   float *boxes, size_t boxes_len, uint32_t *words, size_t words_len, float *floats, size_t floats_len,
@@ -23,19 +40,21 @@ void ribbon_build(const uint8_t *job, size_t job_len, float *positions, size_t p
     size_t sizes[] = {positions_len, normals_len, tags_len, triangles_len, tubes_len, boxes_len};
     const char *touch = getenv("TOUCH");
     (void)job, (void)job_len, (void)words, (void)words_len, (void)floats, (void)floats_len;
-    say(answer, 4, touch ? RIBBON_NO_ROOM : RIBBON_BAD_LENGTH, touch ? 1 : 0, touch ? 74 : 0, touch ? 144 : 0);
-    if (touch && *touch >= '0' && *touch <= '5') {
-        size_t i = (size_t)(*touch - '0'), size = 4 * sizes[i];
-        uint8_t *buffer = at[i];
-        buffer += touch[1] == '+' ? (ptrdiff_t)size : touch[1] == '-' ? -1 : (ptrdiff_t)(size / 2);
-        *buffer ^= 1;
+    if (getenv("STL")) {
+        for (int i = 0; i < 6; i++) memset(at[i], 0, 4 * sizes[i]);
+        if (tubes_len) tubes[2] = 2;
+        say(answer, 4, 0, (uint32_t)tubes_len / 5, (uint32_t)tags_len, (uint32_t)triangles_len / 3);
+        return;
     }
+    say(answer, 4, touch ? RIBBON_NO_ROOM : RIBBON_BAD_LENGTH, touch ? 1 : 0, touch ? 74 : 0, touch ? 144 : 0);
+    if (touch && *touch >= '0' && *touch <= '5') touch_byte(touch, at[*touch - '0'], 4 * sizes[*touch - '0']);
 }
 
 void ribbon_plan(const uint8_t *job, size_t job_len, size_t k, uint32_t *words, size_t words_len, float *floats, size_t floats_len,
                  uint32_t answer[9]) {
     (void)job, (void)job_len, (void)k, (void)words, (void)words_len, (void)floats, (void)floats_len;
-    if (getenv("TOUCH")) say(answer, 9, 0, 1, 74, 144);
+    if (plays("empty")) say(answer, 9, 0, 0, 0, 0);
+    else if (getenv("TOUCH") || getenv("STL")) say(answer, 9, 0, 1, 74, 144);
     else say(answer, 9, RIBBON_BAD_LENGTH, 0, 0, 0);
 }
 
@@ -47,13 +66,52 @@ size_t ribbon_tube(const uint32_t *tubes, size_t tubes_len, const uint32_t *tria
 void ribbon_read_pdb(const uint8_t *file, size_t file_len, uint8_t *job_out, size_t job_out_len, uint32_t answer[4]) {
     static const uint8_t job[80] = {0, 0, 0, 76, 1, 0, 1, 0, 2, 0, 0, 0, 2, 1};
     (void)file, (void)file_len;
-    if (!getenv("TOUCH")) {
+    if (!getenv("TOUCH") && !getenv("STL")) {
         say(answer, 4, RIBBON_BAD_LENGTH, 0, 0, 0);
     } else if (job_out_len < sizeof job) {
         say(answer, 4, RIBBON_NO_JOB_ROOM, sizeof job, 0, 0);
     } else {
         memcpy(job_out, job, sizeof job);
         say(answer, 4, 0, sizeof job, 0, 0);
+    }
+}
+
+void ribbon_write_stl(const float *positions, size_t positions_len, const float *normals, size_t normals_len, const uint32_t *tags, size_t tags_len,
+                      const uint32_t *triangles, size_t triangles_len, const uint32_t *tubes, size_t tubes_len, const float *boxes, size_t boxes_len,
+                      size_t k, size_t v, size_t t, uint8_t *stl, size_t stl_len, uint32_t answer[4]) {
+    size_t size = RIBBON_STL_SIZE(144);
+    (void)normals, (void)normals_len, (void)tags, (void)tags_len, (void)tubes, (void)tubes_len, (void)boxes, (void)boxes_len, (void)k;
+    if (!getenv("STL") || v != 74 || t != 144 || triangles_len != 432 || triangles[0] >= v) say(answer, 4, RIBBON_INCONSISTENT, 0, 0, 0);
+    else if (stl_len < size) say(answer, 4, RIBBON_NO_STL_ROOM, (uint32_t)size, 0, 0);
+    else say(answer, 4, 0, (uint32_t)size - plays("size"), 0, 0);
+    if (!answer[0]) {
+        memset(stl, 0, size);
+        stl[80] = 144, stl[500] = plays("float");
+        if (plays("positions")) touch_byte("", (float *)(uintptr_t)positions, 4 * positions_len);
+    } else if (plays("file")) {
+        touch_byte(getenv("STL"), stl, stl_len);
+    }
+}
+
+void ribbon_read_stl(const uint8_t *file, size_t file_len, float *corners, size_t corners_len, float *normals, size_t normals_len, uint32_t answer[4]) {
+    if (getenv("STL") && file_len == RIBBON_STL_SIZE(1)) {
+        uint32_t nan = plays("nan") ? 0xFFC00001u : 0x7FC00000u;
+        memcpy(normals, &nan, 4), memcpy(corners + 8, &nan, 4);
+        say(answer, 4, 0, 1, 0, 0);
+        return;
+    }
+    if (!getenv("STL") || file_len != RIBBON_STL_SIZE(144)) say(answer, 4, RIBBON_NOT_STL, 0, 0, 0);
+    else if (corners_len < 9 * 144 || normals_len < 3 * 144) say(answer, 4, RIBBON_NO_STL_ROOM, 144, 0, 0);
+    else say(answer, 4, 0, 144, 0, 0);
+    if (!answer[0]) {
+        memset(normals, 0, 4 * 3 * 144);
+        memset(corners, 0, 4 * 9 * 144);
+        corners[70] = file[500];
+        if (plays("read")) touch_byte("", (uint8_t *)(uintptr_t)file, 100);
+    } else if (plays("corners")) {
+        touch_byte(getenv("STL"), corners, 4 * corners_len);
+    } else if (plays("normals")) {
+        touch_byte(getenv("STL"), normals, 4 * normals_len);
     }
 }
 
