@@ -1,5 +1,7 @@
 // What every program here reads and writes with: a read that fails is told apart from the end of the input, and each program says at its end whether all went
 // well. What a cut input gives is no whole file, and a part of a protein must never look like the whole of it.
+use libc::SEEK_CUR;
+use libc::SEEK_END;
 use libc::STDERR_FILENO;
 use libc::STDIN_FILENO;
 
@@ -46,11 +48,16 @@ pub fn fill(from: i32, buf: &mut [u8]) -> Filled {
 
 // The file that the first argument names, standard input where there is none, or -1, which was then said.
 pub fn open_first() -> i32 {
-    if os::arg_count() < 2 {
+    open_argument(1)
+}
+
+// The same of argument i.
+pub fn open_argument(i: usize) -> i32 {
+    if os::arg_count() <= i {
         return STDIN_FILENO;
     }
     let mut path = io::buffer();
-    let n = os::arg(1, &mut path);
+    let n = os::arg(i, &mut path);
     if os::errno() != 0 {
         os::fail(b"the file's name");
         return -1;
@@ -62,6 +69,16 @@ pub fn open_first() -> i32 {
     file
 }
 
+// Whether a file that was read to its end still ends where the reading stopped: one that was cut, or written on, meanwhile does not. What has no places, such as a
+// pipe, ends where its writer ended.
+pub fn is_settled(from: i32) -> bool {
+    let here = libc::lseek(from, 0, SEEK_CUR);
+    if here < 0 {
+        return true;
+    }
+    libc::lseek(from, 0, SEEK_END) == here
+}
+
 pub fn say(words: &[u8]) {
     io::write_all(STDERR_FILENO, words);
 }
@@ -70,8 +87,13 @@ pub fn say(words: &[u8]) {
 // Where nobody listens there, the write fails and nothing is lost.
 pub fn end(good: bool) {
     if good {
-        io::write_all(3, b"0");
+        end_with(b"0");
         return;
     }
-    io::write_all(3, b"1");
+    end_with(b"1");
+}
+
+// The same with a status of the program's own.
+pub fn end_with(status: &[u8]) {
+    io::write_all(3, status);
 }

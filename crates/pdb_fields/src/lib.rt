@@ -41,7 +41,7 @@ fn is_digit(b: u8) -> bool
 }
 
 // 1 where the byte `b` stands at `i`.
-fn lead_at(l: &[u8], i: usize, b: u8) -> usize
+pub fn lead_at(l: &[u8], i: usize, b: u8) -> usize
     requires { ⌜ i ≤ length (now l) ⌝ }
     ensures { λ r. ⌜ (r ≡ lead b (drop i (now (l .entry)))) × (i + r ≤ length (now (l .entry))) ⌝ }
 {
@@ -54,7 +54,7 @@ fn lead_at(l: &[u8], i: usize, b: u8) -> usize
 }
 
 // The digits from `i` on, `v` standing before them.
-fn digits(l: &[u8], i: usize, v: u32) -> Run
+pub fn digits(l: &[u8], i: usize, v: u32) -> Run
     requires { ⌜ (i ≤ length (now l)) × (length (now l) ≤ 8) × (v < 10 ^ i) ⌝ }
     ensures { λ r. ⌜ (Digits (now (l .entry)) i v (r .next) (r .value)) × (r .value < 10 ^ (r .next)) ⌝ }
 {

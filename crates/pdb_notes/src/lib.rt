@@ -177,12 +177,16 @@ fn tell_ends(s: &[u8]) {
 
 // What was read of a file whose job was written, and what was not.
 pub fn tell(s: &[u8], job: &[u8]) {
-    let alphas = count_lines(s, What::Alphas);
-    tell_counts(job, alphas);
+    tell_counts(job, count_lines(s, What::Alphas));
+    tell_notes(s, job);
+}
+
+// The same without the counts.
+pub fn tell_notes(s: &[u8], job: &[u8]) {
     tell_misspelt(s);
     tell_left_out(s);
     if has_atoms(job) {
-        tell_alphas(alphas);
+        tell_alphas(count_lines(s, What::Alphas));
         tell_line(s);
         tell_ends(s);
     } else {
@@ -190,8 +194,18 @@ pub fn tell(s: &[u8], job: &[u8]) {
     }
 }
 
+// Why a file is refused: the refusal's number with what it carries, the line that it names, what is wrong and what to do.
+pub fn tell_refused(s: &[u8], r: Refusal) {
+    let mut line = [0u8; 256];
+    let n = ribbon_text::refused_line(&mut line, r);
+    io::write_all(STDERR_FILENO, &line[..n]);
+    blame(s, r);
+    words::explain(r);
+    suspect(s);
+}
+
 // The line that a refusal names.
-pub fn blame(s: &[u8], r: Refusal) {
+fn blame(s: &[u8], r: Refusal) {
     match r {
         Refusal::ShortLine(n) => blame_line(s, n, Blame::Length),
         Refusal::BadNumber(n) => blame_line(s, n, Blame::Digits),
@@ -201,7 +215,7 @@ pub fn blame(s: &[u8], r: Refusal) {
 }
 
 // A refused file may be something else.
-pub fn suspect(s: &[u8]) {
+fn suspect(s: &[u8]) {
     tell_line(s);
     if 0 < count_lines(s, What::Items) {
         say(

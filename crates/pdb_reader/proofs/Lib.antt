@@ -7,3 +7,4 @@ pub mod Lines
 pub mod Reading
 pub mod Demands
 pub mod Files
+pub mod Fits

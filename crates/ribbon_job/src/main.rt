@@ -1,9 +1,8 @@
 // The program `ribbon-job`: reads a PDB file, the one that is named or standard input, and writes its job to standard output. What was read, or why there is no
 // job, it says on standard error.
-use files::say;
-use libc::STDERR_FILENO;
 use libc::STDOUT_FILENO;
 use pdb_reader::Read;
+use words::Else;
 
 // Room for a file and for its job. Each comes from a function of its own, since a proof that sees so long an array's zeros counts them one by one.
 // Together they stay below the 8 MiB that a system gives a program's stack.
@@ -31,12 +30,7 @@ fn write_job(file: &[u8], job: &mut [u8]) -> bool {
     match a {
         Read::Written(n) => send(file, &job[..n]),
         Read::NoJob(r) => {
-            let mut line = [0u8; 256];
-            let n = ribbon_text::refused_line(&mut line, r);
-            io::write_all(STDERR_FILENO, &line[..n]);
-            pdb_notes::blame(file, r);
-            words::explain(r);
-            pdb_notes::suspect(file);
+            pdb_notes::tell_refused(file, r);
             false
         }
     }
@@ -53,9 +47,7 @@ fn convert(from: i32) -> bool {
     }
     let n = io::count(got, &file);
     if 5000000 < n {
-        say(
-            b"too long: ribbon-job has room for a file of 5000000 bytes\nwhat to do: split the file by its chains, or read it with the library, which has no such limit (include/ribbon.h)\n",
-        );
+        words::explain_else(Else::LongFile);
         return false;
     }
     write_job(&file[..n], &mut job)

@@ -1,7 +1,15 @@
-// The words that a person reads: of each refusal what is wrong and what to do about it, in one place for all programs. They go to standard error, behind the line
-// with the refusal's number and what it carries.
+// The words that a person reads: of each refusal two lines, what is wrong, with its line, chain, segment or atom, and what to do about it, in one place for all
+// programs. They go to standard error, behind the line with the refusal's number and what it carries.
 use files::say;
 use job::Refusal;
+use libc::STDERR_FILENO;
+
+// What is at fault by its number, and the words behind it.
+fn say_of(what: &[u8], n: usize, words: &[u8]) {
+    say(what);
+    io::print_decimal(STDERR_FILENO, n as u64);
+    say(words);
+}
 
 // The refusals of a job's bytes, 1 to 8.
 fn explain_job(r: Refusal) {
@@ -9,8 +17,10 @@ fn explain_job(r: Refusal) {
         Refusal::BadLength => say(
             b"the job is not whole: it has under 13 bytes, or its first four bytes do not say how many follow\nwhat to do: make it again with ribbon-job; if nothing came at all, see what the program before this one said\n",
         ),
-        Refusal::BadVersion(_) => say(
-            b"the job's version, its fifth byte, is not 1\nwhat to do: write a job of version 1 (docs/JOB.md), or make one with ribbon-job\n",
+        Refusal::BadVersion(v) => say_of(
+            b"the job's version, its fifth byte, is not 1 but ",
+            v as usize,
+            b"\nwhat to do: write a job of version 1 (docs/JOB.md), or make one with ribbon-job\n",
         ),
         Refusal::BadCounts => say(
             b"the job has more than 255 chains or more than 16384 residues\nwhat to do: build its chains in several jobs\n",
@@ -18,17 +28,25 @@ fn explain_job(r: Refusal) {
         Refusal::BadSize => say(
             b"the job's size is not that of its counts: 13 bytes, 1 for a chain, 9 for a segment, 33 for an atom\nwhat to do: compare what wrote the job with docs/JOB.md\n",
         ),
-        Refusal::BadVisibility(_) => say(
-            b"the chain of that number, counted from 0, is neither hidden, 0, nor visible, 1\nwhat to do: set its byte to 0 or 1 (docs/JOB.md)\n",
+        Refusal::BadVisibility(n) => say_of(
+            b"chain ",
+            n,
+            b", counted from 0, is neither hidden, 0, nor visible, 1\nwhat to do: set its byte to 0 or 1 (docs/JOB.md)\n",
         ),
-        Refusal::BadKind(_) => say(
-            b"the segment of that number, counted from 0, has a kind above 2\nwhat to do: write 0 for a coil, 1 for a helix, 2 for a sheet (docs/JOB.md)\n",
+        Refusal::BadKind(n) => say_of(
+            b"segment ",
+            n,
+            b", counted from 0, has a kind above 2\nwhat to do: write 0 for a coil, 1 for a helix, 2 for a sheet (docs/JOB.md)\n",
         ),
-        Refusal::BadAtom(_) => say(
-            b"the atom of that number, counted from 0, has a role above 2, or a residue or a chain that the job does not have\nwhat to do: compare it with the job's counts (docs/JOB.md); 65535 stands for none\n",
+        Refusal::BadAtom(n) => say_of(
+            b"atom ",
+            n,
+            b", counted from 0, has a role above 2, or a residue or a chain that the job does not have\nwhat to do: compare it with the job's counts (docs/JOB.md); 65535 stands for none\n",
         ),
-        Refusal::BadCoordinate(_) => say(
-            b"the atom of that number, counted from 0, has a coordinate that is not within -16384 to 16384\nwhat to do: correct the atom, or move the structure nearer to the origin\n",
+        Refusal::BadCoordinate(n) => say_of(
+            b"atom ",
+            n,
+            b", counted from 0, has a coordinate that is not within -16384 to 16384\nwhat to do: correct the atom, or move the structure nearer to the origin\n",
         ),
         _ => {}
     }
@@ -38,13 +56,15 @@ fn explain_job(r: Refusal) {
 fn explain_room(r: Refusal) {
     match r {
         Refusal::NoScratch => say(
-            b"the job has more residues than this program's scratch serves, which is 512\nwhat to do: build it with the library, which takes 16384 residues (include/ribbon.h)\n",
+            b"the job has more residues than this program serves: ribbon-plan takes 512, ribbon 16384, or 1024 where the system gives it no long stack\nwhat to do: make the model with ribbon, under a higher limit of the stack (ulimit -Hs says it; 262144 are needed), or use the library (include/ribbon.h)\n",
         ),
         Refusal::TooManyVertices => say(
-            b"the mesh would have more than 1048576 vertices\nwhat to do: hide chains, or build them in several jobs\n",
+            b"the mesh would have more than 1048576 vertices\nwhat to do: split the file by its chains, or hide chains of the job, and build them one by one\n",
         ),
-        Refusal::NoRoom(_, _, _) => say(
-            b"a lent buffer is shorter than the mesh, whose tubes, vertices and triangles are the three numbers\nwhat to do: lend buffers for so many\n",
+        Refusal::NoRoom(_, v, _) => say_of(
+            b"the mesh has ",
+            v,
+            b" vertices, and there is room for fewer; the three numbers are its tubes, vertices and triangles\nwhat to do: lend buffers for so many; of ribbon: raise the limit of the stack (ulimit -Hs says it; 262144 are needed), or use the library (include/ribbon.h)\n",
         ),
         _ => {}
     }
@@ -53,20 +73,28 @@ fn explain_room(r: Refusal) {
 // The refusals of a PDB file, 12 to 16.
 fn explain_file(r: Refusal) {
     match r {
-        Refusal::ShortLine(_) => say(
-            b"the line of that number ends before its last column, which is 54 for ATOM, 38 for HELIX and SHEET\nwhat to do: fetch the file again if it was cut; if trailing blanks were stripped, pad its lines with blanks to 80 columns\n",
+        Refusal::ShortLine(n) => say_of(
+            b"line ",
+            n,
+            b" ends before its last column, which is 54 for ATOM, 38 for HELIX and SHEET\nwhat to do: fetch the file again if it was cut; if trailing blanks were stripped, pad its lines with blanks to 80 columns\n",
         ),
-        Refusal::BadNumber(_) => say(
-            b"a serial, a sequence number or a coordinate in the line of that number is not right\nwhat to do: correct the columns; serials past 99999 and residues past 9999 do not fit a PDB file: split it by its chains\n",
+        Refusal::BadNumber(n) => say_of(
+            b"a serial, a sequence number or a coordinate is not right in line ",
+            n,
+            b"\nwhat to do: correct the columns; serials past 99999 and residues past 9999 do not fit a PDB file: split it by its chains\n",
         ),
-        Refusal::AbsentResidue(_) => say(
-            b"the helix or strand in the line of that number begins or ends at a residue that no ATOM line has\nwhat to do: shorten it to residues that have ATOM lines (a modified residue often stands in HETATM lines alone), or leave the line out\n",
+        Refusal::AbsentResidue(n) => say_of(
+            b"the helix or strand in line ",
+            n,
+            b" begins or ends at a residue that no ATOM line has\nwhat to do: shorten it to residues that have ATOM lines (a modified residue often stands in HETATM lines alone), or leave the line out\n",
         ),
         Refusal::PastLimits => say(
             b"a job has at most 255 chains, 16384 residues, 65535 segments and 65535 atoms, and the file has more\nwhat to do: split the file by its chains\n",
         ),
-        Refusal::NoJobRoom(_) => say(
-            b"the job needs so many bytes, and this program has room for 2100000\nwhat to do: split the file by its chains, or read it with the library, which has no such limit (include/ribbon.h)\n",
+        Refusal::NoJobRoom(n) => say_of(
+            b"the job has ",
+            n,
+            b" bytes, and this program has less room: ribbon-job 2100000, ribbon 2752738, as many as any job has, or 1000000 where the system gives it no long stack\nwhat to do: raise the limit of the stack (ulimit -Hs says it; 262144 are needed), split the file by its chains, or use the library (include/ribbon.h)\n",
         ),
         _ => {}
     }
@@ -106,5 +134,39 @@ pub fn explain(r: Refusal) {
         | Refusal::PastLimits
         | Refusal::NoJobRoom(_) => explain_file(r),
         Refusal::Inconsistent | Refusal::NoStlRoom(_) | Refusal::NotStl => explain_stl(r),
+    }
+}
+
+// What is no numbered refusal, since a program's own room or the file's kind is at fault.
+pub enum Else {
+    LongJob,
+    LongFile,
+    LongModel,
+    NoStack,
+    NoTube,
+    Changed,
+}
+
+// The same two lines for these.
+pub fn explain_else(e: Else) {
+    match e {
+        Else::LongJob => say(
+            b"ribbon-plan takes jobs of 65536 bytes and 512 residues\nwhat to do: plan it with the library, which takes every job (include/ribbon.h)\n",
+        ),
+        Else::LongFile => say(
+            b"too long: ribbon-job has room for a file of 5000000 bytes\nwhat to do: split the file by its chains, or read it with the library, which has no such limit (include/ribbon.h)\n",
+        ),
+        Else::LongModel => say(
+            b"too long: ribbon has room for a file of 134217728 bytes\nwhat to do: take out what is not read, such as all models but the first, or read it with the library, which has no such limit (include/ribbon.h)\n",
+        ),
+        Else::NoStack => say(
+            b"too long: the system gives this program no long stack, and without it ribbon has room for a file of 1500000 bytes\nwhat to do: raise the limit of the stack (ulimit -Hs says it; 262144 are needed), or use the library (include/ribbon.h)\n",
+        ),
+        Else::NoTube => say(
+            b"nothing to build: the file has no two neighbouring residues with a C-alpha each, so that there is no tube\nwhat to do: see that it is the PDB file of a protein, with ATOM lines\n",
+        ),
+        Else::Changed => say(
+            b"the file changed while it was read, so that a part of it may be missing\nwhat to do: wait until whatever writes it has ended, and start again\n",
+        ),
     }
 }

@@ -1,7 +1,7 @@
 use native.Mathlib.Omega.{arith}
 use mathlib.Core.Path.{sym}
 use lib.Seq.{length-take-le}
-use Rattle.ribbon_job.proofs.Laws.{written-fits}
+use Rattle.pdb_reader.proofs.Fits.{written-fits}
 use borrow.Author.Needs.{needs}
 use Rattle.ribbon_job.proofs.write_job.Statement.{statement}
 use Rattle.ribbon_job.proofs.write_job.Tie as tie
@@ -19,5 +19,4 @@ write-job-spec =
     (λ c κs. search needs) (λ c. search needs)
     slice-reshare-prefix-send
     slice-aggregate-send
-    (λ c κs. search needs) (λ c. search needs) (λ c. search needs) (λ c κs. search needs) (λ c. search needs) (λ c. search needs) (λ c κs. search needs)
-    (λ c κs. search needs) (λ c κs. search needs) (λ c κs. search needs) (λ c. search needs) (λ c. search needs) (λ c. search needs) (λ c. search needs))
+    (λ c κs. search needs) (λ c. search needs) (λ c κs. search needs) (λ c. search needs) (λ c. search needs) (λ c. search needs) (λ c. search needs))
