@@ -1,0 +1,4 @@
+pub mod Laws
+pub mod One
+pub mod Written
+pub mod Demands
