@@ -1,8 +1,9 @@
 # Sourced by the wrappers at the root: builds a proved program once, and runs it on x86-64, or on Arm under the kit's emulator.
 # The kit's own loader and C library are used, as `rt` does, so that a program runs the same on every machine.
 command -v rt >/dev/null || { echo "${0##*/}: the Rattle kit's command 'rt' is not on the PATH" >&2; exit 2; }
-kit=${RATTLE_HOME:-$(dirname "$(dirname "$(readlink -f "$(command -v rt)")")")}
-tools=$kit/on/$(uname -m)/toolchain
+kit=${RATTLE_HOME:-$(readlink -f "$(command -v rt)")}
+kit=${kit%/bin/rt}
+tools=$kit/on/$HOSTTYPE/toolchain
 
 # Said before a build and in ./test: another kit may prove the same, and whether it does is what the build tells.
 compare_kit() {
@@ -11,8 +12,12 @@ compare_kit() {
     [ "$here" = "$(cat "$root/KIT")" ] || echo "note: the kit here is '$here', and this was last proved whole with '$(cat "$root/KIT")' (docs/CHANGING.md)" >&2
 }
 
-fresh() { # FILE: it is there, and no source is newer
-    [ -e "$1" ] && [ -z "$(find "$root/crates" "$root/crates.txt" \( -name '*.rt' -o -name crates.txt \) -newer "$1" -print -quit)" ]
+fresh() { # FILE: it is there, and no source is newer. No process is started for it, since every start asks
+    local source
+    [ -e "$1" ] || return 1
+    for source in "$root/crates.txt" "$root"/crates/*/src/*.rt; do
+        [ ! "$source" -nt "$1" ] || return 1
+    done
 }
 
 # The crates that NAME stands on, by crates.txt, and itself.
@@ -80,15 +85,15 @@ hold_descriptors() {
     { : 5>&1; } 2>/dev/null || exec 1</dev/null
 }
 
-# Runs a program and ends with its status. A Rattle program has none of its own: its last act is to write it to descriptor 3, 0 where all went well and 1 where
-# not. Where nothing comes the program was stopped, and what it wrote is not whole.
+# Runs a program and ends with its status. A Rattle program has none of its own: its last act is to write it to descriptor 3, 0 where all went well and 1 or 2
+# where not. Where nothing comes the program was stopped, and what it wrote is not whole: that is status 1, or what `stopped` has.
 run() { # NAME [ARGUMENT ...]
     local status ended=0
     command_of "$1"
     { status=$("${words[@]}" "${@:2}" 3>&1 1>&4 4>&-) || ended=$?; } 4>&1
     case $status in
-        0 | 1) exit "$status" ;;
-        *) echo "${0##*/}: the program was stopped before its end (status $ended): what it wrote is not whole" >&2; exit 1 ;;
+        0 | 1 | 2) exit "$status" ;;
+        *) echo "${0##*/}: the program was stopped before its end (status $ended): what it wrote is not whole" >&2; exit "${stopped:-1}" ;;
     esac
 }
 
