@@ -2,6 +2,7 @@
 //! 02's files (PDB and STL), a generator of requests, the stream protocol, and the driver that compares another program with it bit for bit.
 
 pub mod angles;
+pub mod breaks;
 pub mod calls;
 pub mod cases;
 pub mod compare;
@@ -14,6 +15,9 @@ pub mod pdb_files;
 pub mod plan_text;
 pub mod protocol;
 pub mod record;
+pub mod ribbon;
+pub mod ribbon_compare;
+pub mod ribbon_files;
 // Document 000 keeps its own ways of writing, so that it can be held beside the original.
 #[allow(
     clippy::assign_op_pattern,

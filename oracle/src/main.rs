@@ -8,6 +8,7 @@ use std::{
     path::Path,
     process::ExitCode,
     str::FromStr,
+    time::Duration,
 };
 
 use oracle::{
@@ -19,6 +20,8 @@ use oracle::{
     plan_text::plan_text,
     protocol::{Request, answer, encode_answer},
     record::record,
+    ribbon::{ribbon, thousandths},
+    ribbon_compare::{self, compare_ribbon},
     wrong::{self, Mutation},
 };
 
@@ -29,6 +32,9 @@ const USAGE: &str = "usage:
   oracle record --out DIR                                      writes the recorded answers
   oracle differences OLD NEW                                   which words differ between the recorded answers in two folders
   oracle read-pdb [FILE]                                       the job of a PDB file (or of standard input) on standard output
+  oracle ribbon [--scale MM] [--wrong MISTAKE] [FILE]          the STL file of a PDB file (or of standard input) on standard output
+  oracle compare-ribbon [--files N] [--seed S] [--room ROOM] [--wait SECONDS] [--out DIR] -- COMMAND [ARGUMENT ...]
+                                                               compares COMMAND [--scale MM] with the oracle's ribbon; ROOM is large or small
   oracle plan-text                                             a job on standard input; prints what ribbon-plan prints
   oracle angles                                                the eight cosines and sines of this machine
   oracle mistakes                                              the names that --wrong takes";
@@ -59,11 +65,18 @@ fn kind(value: Option<String>) -> Result<Kind, String> {
     }
 }
 
+fn mistake(value: Option<String>) -> Result<Option<Mutation>, String> {
+    match value {
+        Some(name) => match wrong::by_name(&name) {
+            None => Err(format!("unknown mistake '{name}'")),
+            known => Ok(known),
+        },
+        None => Ok(None),
+    }
+}
+
 fn run_answer(args: &[String]) -> Result<bool, String> {
-    let mistake = match options(args, &["--wrong"])?.remove(0) {
-        Some(name) => Some(wrong::by_name(&name).ok_or(format!("unknown mistake '{name}'"))?),
-        None => None,
-    };
+    let mistake = mistake(options(args, &["--wrong"])?.remove(0))?;
     let mut input = BufReader::new(io::stdin().lock());
     let mut output = BufWriter::new(io::stdout().lock());
     wrong::with(mistake, || -> io::Result<()> {
@@ -76,20 +89,42 @@ fn run_answer(args: &[String]) -> Result<bool, String> {
     .map_err(|e| e.to_string())
 }
 
-fn run_compare(args: &[String]) -> Result<bool, String> {
-    // The program's words come one by one, so that none is split on a blank.
+/// The options before `--`, and the program's words behind it, which come one by one, so that none is split on a blank.
+fn and_program(args: &[String]) -> Result<(&[String], Vec<String>), String> {
     let end = args.iter().position(|a| a == "--").unwrap_or(args.len());
-    let batch = args.get(end + 1..).unwrap_or_default().to_vec();
-    if batch.is_empty() {
-        return Err("compare needs -- PROGRAM".to_string());
+    let program = args.get(end + 1..).unwrap_or_default().to_vec();
+    if program.is_empty() {
+        return Err("-- and a program are missing".to_string());
     }
-    let mut o = options(&args[..end], &["--kind", "--jobs", "--seed", "--out"])?;
+    Ok((&args[..end], program))
+}
+
+fn run_compare(args: &[String]) -> Result<bool, String> {
+    let (args, batch) = and_program(args)?;
+    let mut o = options(args, &["--kind", "--jobs", "--seed", "--out"])?;
     compare(&Options {
         batch,
         kind: kind(o[0].take())?,
         jobs: number(o[1].take(), 10_000)?,
         seed: number(o[2].take(), 1)?,
         out: o[3].take().unwrap_or(".".to_string()).into(),
+    })
+}
+
+fn run_compare_ribbon(args: &[String]) -> Result<bool, String> {
+    let (args, command) = and_program(args)?;
+    let mut o = options(args, &["--files", "--seed", "--room", "--wait", "--out"])?;
+    compare_ribbon(&ribbon_compare::Options {
+        command,
+        files: number(o[0].take(), 300)?,
+        seed: number(o[1].take(), 1)?,
+        small: match o[2].as_deref() {
+            None | Some("large") => false,
+            Some("small") => true,
+            Some(other) => return Err(format!("'{other}' is no room")),
+        },
+        wait: Duration::from_secs(number(o[3].take(), 60)?),
+        out: o[4].take().unwrap_or(".".to_string()).into(),
     })
 }
 
@@ -131,17 +166,24 @@ fn run_differences(args: &[String]) -> Result<bool, String> {
     }
 }
 
+/// The bytes of a file, or of standard input where none is named.
+fn input(file: Option<&str>) -> Result<Vec<u8>, String> {
+    let mut bytes = Vec::new();
+    match file {
+        None => io::stdin().lock().read_to_end(&mut bytes).map(|_| bytes),
+        Some(path) => fs::read(path),
+    }
+    .map_err(|e| format!("{}: {e}", file.unwrap_or("standard input")))
+}
+
 /// The job on standard output, or the refusal on standard error and exit status 1.
 fn run_read_pdb(args: &[String]) -> Result<bool, String> {
     let file = match args {
-        [] => {
-            let mut bytes = Vec::new();
-            io::stdin().lock().read_to_end(&mut bytes).map(|_| bytes)
-        }
-        [path] => fs::read(path),
+        [] => input(None),
+        [path] => input(Some(path)),
         _ => return Err("read-pdb takes one file".to_string()),
     };
-    match job_of(&file.map_err(|e| e.to_string())?) {
+    match job_of(&file?) {
         Ok(job) => {
             let written = io::stdout().lock().write_all(&job.bytes());
             written.map(|()| true).map_err(|e| e.to_string())
@@ -151,6 +193,29 @@ fn run_read_pdb(args: &[String]) -> Result<bool, String> {
             Ok(false)
         }
     }
+}
+
+/// The STL file on standard output, and on standard error what was read and built; or there a refusal, and exit status 1.
+fn run_ribbon(args: &[String]) -> Result<bool, String> {
+    // The options come in pairs, so that a word left over is the file.
+    let (pairs, file) = args.split_at(args.len() / 2 * 2);
+    let mut o = options(pairs, &["--scale", "--wrong"])?;
+    let mistake = mistake(o[1].take())?;
+    let file = file.first().map(String::as_str).filter(|&f| f != "-");
+    wrong::with(mistake, || {
+        let mm = o[0].take().unwrap_or("1".to_string());
+        let m = thousandths(&mm).ok_or(format!("'{mm}' is no scale from 0.001 to 1000"))?;
+        let outcome = ribbon(&input(file)?, m);
+        let mut output = io::stdout().lock();
+        output
+            .write_all(&outcome.stl)
+            .and_then(|()| output.flush())
+            .map_err(|e| format!("the STL file cannot be written: {e}"))?;
+        let lines: String = outcome.lines.iter().map(|l| format!("{l}\n")).collect();
+        // Where nobody can be told, the model is no worse.
+        let _ = io::stderr().write_all(lines.as_bytes());
+        Ok(outcome.status() == 0)
+    })
 }
 
 fn run_plan_text(args: &[String]) -> Result<bool, String> {
@@ -173,6 +238,8 @@ fn run(args: &[String]) -> Result<bool, String> {
         "record" => run_record(rest),
         "differences" => run_differences(rest),
         "read-pdb" => run_read_pdb(rest),
+        "ribbon" => run_ribbon(rest),
+        "compare-ribbon" => run_compare_ribbon(rest),
         "plan-text" => run_plan_text(rest),
         "angles" => {
             options(rest, &[])?;

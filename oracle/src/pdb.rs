@@ -15,7 +15,7 @@ pub const COUNTS: u32 = 15;
 pub const NO_ROOM: u32 = 16;
 
 /// 'A residue is a distinct chain letter, sequence number and insertion code.'
-type Name = (u8, i64, u8);
+pub type Name = (u8, i64, u8);
 
 /// What an ATOM line says.
 struct Atom {
@@ -366,6 +366,14 @@ fn segment(s: &Segment, residues: &HashMap<Name, Residue>) -> RawSegment {
             to.last
         },
     }
+}
+
+/// The names of a file's residues by their numbers, whether the file is right or not.
+pub fn names_of(file: &[u8]) -> Vec<Name> {
+    let records: Vec<Line> = lines_read(file).iter().map(|line| record(line)).collect();
+    let mut named: Vec<(Name, Residue)> = residues(&records).into_iter().collect();
+    named.sort_by_key(|(_, residue)| residue.number);
+    named.into_iter().map(|(name, _)| name).collect()
 }
 
 /// The job of a file, whatever room there is for it.

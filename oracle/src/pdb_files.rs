@@ -21,10 +21,10 @@ const NAMES: [&str; 20] = [
 ];
 
 #[derive(Clone, PartialEq)]
-struct Residue {
-    chain: u8,
-    number: i64,
-    insertion: u8,
+pub struct Residue {
+    pub chain: u8,
+    pub number: i64,
+    pub insertion: u8,
 }
 
 /// A file that is being written, line by line.
@@ -111,7 +111,7 @@ fn atom_line(rng: &mut Rng, serial: u64, r: &Residue) -> Vec<u8> {
     line
 }
 
-fn segment_line(rng: &mut Rng, helix: bool, from: &Residue, to: &Residue) -> Vec<u8> {
+pub fn segment_line(rng: &mut Rng, helix: bool, from: &Residue, to: &Residue) -> Vec<u8> {
     let mut line = if helix {
         b"HELIX ".to_vec()
     } else {
@@ -449,7 +449,7 @@ fn many_residues(rng: &mut Rng) -> Vec<u8> {
 }
 
 /// Each letter that a column can hold: every byte but LF.
-fn many_chains(rng: &mut Rng) -> Vec<u8> {
+pub fn many_chains(rng: &mut Rng) -> Vec<u8> {
     let mut file = Vec::new();
     for chain in (0..=255).filter(|&b| b != b'\n') {
         let r = Residue {

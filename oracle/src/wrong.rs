@@ -133,6 +133,25 @@ mutations! {
     StlNormalsAsCorners "the normal is listed as the first corner, the last corner as the normal",
     StlListedOnEighteen "the reader's 18 leaves a first facet",
     StlListsCleared "the places past the lists are cleared",
+    // Of the command `ribbon`, caught by `compare-ribbon` (`tests/ribbon.rs`).
+    RibbonZUnscaled "z is not scaled",
+    RibbonScaledTwice "positions are scaled twice",
+    RibbonNormalsUnscaled "facet normals are those of the unscaled positions",
+    RibbonTimesThousandth "the factor is thousandths times 0.001",
+    RibbonScaledInDouble "positions are scaled in f64, and rounded at the end",
+    RibbonScaleWhole "what stands behind a scale's point is left out",
+    RibbonScaleUnasked "a wrong scale is taken for 1",
+    RibbonScalePastThousand "a scale above 1000 is taken",
+    RibbonFourDecimals "a scale may have four digits behind its point",
+    RibbonEmptyWritten "a mesh of no tube is written",
+    RibbonKindsSwapped "helices are counted as strands",
+    RibbonBreakMissed "the last break is missed",
+    RibbonBreakOfAll "breaks are looked for between chains too",
+    RibbonBreakByNumber "a break is where sequence numbers jump",
+    RibbonBreakByChain "breaks are told chain by chain",
+    RibbonThirteenShown "thirteen breaks are told",
+    RibbonInsertionDropped "a residue is told without its insertion code",
+    RibbonAloneWithoutAlpha "a residue with no C-alpha is told as alone",
 }
 
 thread_local! {

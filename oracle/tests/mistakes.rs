@@ -1,4 +1,5 @@
-//! Each deliberate mistake is caught by the generator's requests: within some thousands of them the wrong answer differs.
+//! Each deliberate mistake is caught by the generator's requests: within some thousands of them the wrong answer differs. Those of the command
+//! `ribbon` change no answer; `tests/ribbon.rs` has them.
 
 use oracle::{
     generator::{Kind, request},
@@ -32,6 +33,7 @@ fn caught(m: Mutation) -> Option<u64> {
 fn every_mistake_is_caught() {
     let missed: Vec<_> = Mutation::ALL
         .iter()
+        .filter(|m| !m.name().starts_with("Ribbon"))
         .filter(|&&m| {
             let at = caught(m);
             println!("{}: {at:?}", m.name());
