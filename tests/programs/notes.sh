@@ -99,10 +99,10 @@ refuses() { # FILE NUMBER LINE WHAT WHAT-TO-DO [FAULT]: the refusal's line, the 
     tells 1 ./ribbon-job "$1" <"$at/said"
 }
 awk 'NR == 14 { $0 = substr($0, 1, 53) } { print }' "$pdb" >"$at/short.pdb"
-refuses "$at/short.pdb" 12 14 'the line of that number ends before its last column, which is 54 for ATOM, 38 for HELIX and SHEET' "$short"
+refuses "$at/short.pdb" 12 14 'line 14 ends before its last column, which is 54 for ATOM, 38 for HELIX and SHEET' "$short"
 wrong() { # COLUMNS AT TEXT FAULT: the six residues with TEXT from column AT on in line 6
     awk -v at="$2" -v text="$3" -v line="$1" 'NR == line { $0 = substr($0, 1, at - 1) text substr($0, at + length(text)) } { print }' "$pdb" >"$at/wrong.pdb"
-    refuses "$at/wrong.pdb" 13 "$1" 'a serial, a sequence number or a coordinate in the line of that number is not right' "$digits" "$4"
+    refuses "$at/wrong.pdb" 13 "$1" "a serial, a sequence number or a coordinate is not right in line $1" "$digits" "$4"
 }
 number='a minus or none, and digits, between blanks' places='are no number with a point and three digits behind it'
 wrong 6 7 'A0000' 'its columns 7 to 11 are no serial: digits between blanks'
@@ -113,18 +113,18 @@ wrong 6 39 '   1,000' "its columns 39 to 46, y, $places"
 wrong 6 47 '   1.0e0' "its columns 47 to 54, z, $places"
 wrong 2 22 ' 3 3' "its columns 22 to 25 are no residue number: $number"
 wrong 2 34 '    ' "its columns 34 to 37 are no residue number: $number"
-missing='the helix or strand in the line of that number begins or ends at a residue that no ATOM line has'
+missing() { echo "the helix or strand in line $1 begins or ends at a residue that no ATOM line has"; }
 sed '2s/GLY A    3/MSE A   33/' "$pdb" >"$at/absent.pdb"
-refuses "$at/absent.pdb" 14 2 "$missing" "$absent" 'no right ATOM line has its residue MSE A 33'
+refuses "$at/absent.pdb" 14 2 "$(missing 2)" "$absent" 'no right ATOM line has its residue MSE A 33'
 sed '2s/GLY A    4  1/MSE B    4  1/' "$pdb" >"$at/absent.pdb"
-refuses "$at/absent.pdb" 14 2 "$missing" "$absent" 'no right ATOM line has its residue MSE B 4'
+refuses "$at/absent.pdb" 14 2 "$(missing 2)" "$absent" 'no right ATOM line has its residue MSE B 4'
 sheet() { printf 'SHEET    1   A 1 %s %s  0\n' "$1" "$2"; tail -n +3 "$pdb"; }
 sheet 'GLY A   3A' 'GLY A   4 ' >"$at/sheet.pdb"
-refuses "$at/sheet.pdb" 14 1 "$missing" "$absent" 'no right ATOM line has its residue GLY A 3A'
+refuses "$at/sheet.pdb" 14 1 "$(missing 1)" "$absent" 'no right ATOM line has its residue GLY A 3A'
 sheet 'GLY A   3 ' 'GLY A  44 ' >"$at/sheet.pdb"
-refuses "$at/sheet.pdb" 14 1 "$missing" "$absent" 'no right ATOM line has its residue GLY A 44'
+refuses "$at/sheet.pdb" 14 1 "$(missing 1)" "$absent" 'no right ATOM line has its residue GLY A 44'
 sheet 'GLY A   x ' 'GLY A   4 ' >"$at/sheet.pdb"
-refuses "$at/sheet.pdb" 13 1 'a serial, a sequence number or a coordinate in the line of that number is not right' "$digits" "its columns 23 to 26 are no residue number: $number"
+refuses "$at/sheet.pdb" 13 1 'a serial, a sequence number or a coordinate is not right in line 1' "$digits" "its columns 23 to 26 are no residue number: $number"
 structure 17000 17000 | grep -v HELIX >"$at/past.pdb"
 tells 1 ./ribbon-job "$at/past.pdb" <<'TEXT'
 refused 15 0
@@ -141,7 +141,7 @@ tells 1 ./ribbon-job "$at/rows.cif" <<TEXT
 refused 13 2
 line 2: ATOM   1    N N   . MET A 1 1   ? 27.340 24.430 2.614  1.00 9.67  ? 1   MET A N 
 its columns 23 to 26 are no residue number: a minus or none, and digits, between blanks
-a serial, a sequence number or a coordinate in the line of that number is not right
+a serial, a sequence number or a coordinate is not right in line 2
 $digits
 the file looks like mmCIF, which is not read yet: take the PDB file of the structure
 TEXT
