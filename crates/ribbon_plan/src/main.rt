@@ -1,7 +1,7 @@
 // The program `ribbon-plan`: reads a job, from the file that is named or from standard input, and prints its counts and its tubes, or the refusal.
-use files::say;
 use libc::STDOUT_FILENO;
 use promises::Planned;
+use words::Else;
 
 // Whether a line was written whole.
 fn print(line: &[u8]) -> bool {
@@ -79,9 +79,7 @@ fn plan(from: i32) -> bool {
     let n = io::count(got, &job);
     if 65536 < n {
         print(b"too long\n");
-        say(
-            b"ribbon-plan takes jobs of 65536 bytes and 512 residues\nwhat to do: plan it with the library, which takes every job (include/ribbon.h)\n",
-        );
+        words::explain_else(Else::LongJob);
         return false;
     }
     print_plan(&job[..n], &mut words, &mut floats)
