@@ -2,7 +2,7 @@
 use Prim.Native.Nat.{ℕ, _+_, _*_, _≤_}
 use mathlib.Core.List.{List}
 use mathlib.Core.Path.{_≡_}
-use lib.ListN.{length}
+use lib.ListN.{length, take, drop}
 use Rattle.numbers.specs.Bytes.{u8At, u16At, u32At}
 use Rattle.protein.specs.declared.Head.{Head}
 
@@ -21,18 +21,19 @@ headOf s = record { chains = u16At s 5; residues = u16At s 7; segments = u16At s
 abbrev pub chainAt : ℕ → ℕ
 chainAt c = 13 + c
 
--- 'Then S records of 9 bytes: kind .., u32 start serial, u32 end serial'
-abbrev pub segmentAt : Head → ℕ → ℕ
-segmentAt h i = 13 + h .chains + 9 * i
+-- 'Then S records of 9 bytes': the part of a job that they are. 02 §5 hands records over by themselves, so what a record says is read from a list of its own
+abbrev pub recordsOf : List ℕ → Head → List ℕ
+recordsOf s h = take (9 * h .segments) (drop (13 + h .chains) s)
 
-abbrev pub kindAt : Head → ℕ → ℕ
-kindAt h i = segmentAt h i
+-- where they are: 'kind .., u32 start serial, u32 end serial'
+abbrev pub kindAt : ℕ → ℕ
+kindAt i = 9 * i
 
-abbrev pub startAt : Head → ℕ → ℕ
-startAt h i = segmentAt h i + 1
+abbrev pub startAt : ℕ → ℕ
+startAt i = 9 * i + 1
 
-abbrev pub endAt : Head → ℕ → ℕ
-endAt h i = segmentAt h i + 5
+abbrev pub endAt : ℕ → ℕ
+endAt i = 9 * i + 5
 
 -- 'Then A records of 33 bytes: u32 serial, role .., u16 residue, u16 chain, x, y, z as f64 bits'
 abbrev pub atomAt : Head → ℕ → ℕ

@@ -2,8 +2,8 @@
 use vectors::Vec3;
 ghost use mathlib.Core.Path.{_≡_};
 ghost use Prim.Native.Nat.{_≤_, _<_};
-ghost use Rattle.protein.specs.Layout.{Whole, segmentAt, atomAt};
-ghost use Rattle.protein.specs.Job.{jobOf, shownCode};
+ghost use Rattle.protein.specs.Layout.{Whole, recordsOf, atomAt};
+ghost use Rattle.protein.specs.Job.{jobOf, segmentsOf, shownCode};
 ghost use Rattle.protein.specs.Places.{placeOf, far};
 
 // The counts of a job: chains C, residues R, segments S, atoms A.
@@ -14,14 +14,17 @@ pub struct Head {
     pub atoms: u16,
 }
 
-// Where a segment's record stands, and an atom's.
-pub fn segment_at(h: Head, i: usize) -> usize
-    requires { ⌜ i ≤ 65536 ⌝ }
-    ensures { λ r. ⌜ r ≡ segmentAt h i ⌝ }
+// The segment records of a job: a part of its bytes.
+pub fn records<'a>(b: &'a [u8], h: Head) -> &'a [u8]
+    requires { ⌜ Whole (now b) h ⌝ }
+    ensures { λ r. ⌜ now r ≡ recordsOf (now (b .entry)) h ⌝ }
 {
-    13 + (h.chains as usize) + 9 * i
+    let from = 13 + (h.chains as usize);
+    let end = from + 9 * (h.segments as usize);
+    &b[from..end]
 }
 
+// Where an atom's record stands.
 pub fn atom_at(h: Head, a: usize) -> usize
     requires { ⌜ a ≤ 65536 ⌝ }
     ensures { λ r. ⌜ r ≡ atomAt h a ⌝ }
@@ -40,26 +43,26 @@ pub fn is_shown(b: &[u8], h: Head, code: usize) -> bool
     numbers::byte_at(b, 12 + code) == 1
 }
 
-// A segment's kind, and the serials that it starts and ends with.
-pub fn kind(b: &[u8], h: Head, i: usize) -> usize
-    requires { ⌜ Whole (now b) h × i < h .segments ⌝ }
-    ensures { λ r. ⌜ (r ≡ jobOf (now (b .entry)) h .kind i) × (r < 256) ⌝ }
+// A segment's kind, and the serials that it starts and ends with, from the records q.
+pub fn kind(q: &[u8], i: usize) -> usize
+    requires { ⌜ i < segmentsOf (now q) .count ⌝ }
+    ensures { λ r. ⌜ (r ≡ segmentsOf (now (q .entry)) .kind i) × (r < 256) ⌝ }
 {
-    numbers::byte_at(b, segment_at(h, i))
+    numbers::byte_at(q, 9 * i)
 }
 
-pub fn start(b: &[u8], h: Head, i: usize) -> usize
-    requires { ⌜ Whole (now b) h × i < h .segments ⌝ }
-    ensures { λ r. ⌜ (r ≡ jobOf (now (b .entry)) h .start i) × (r < 4294967296) ⌝ }
+pub fn start(q: &[u8], i: usize) -> usize
+    requires { ⌜ i < segmentsOf (now q) .count ⌝ }
+    ensures { λ r. ⌜ (r ≡ segmentsOf (now (q .entry)) .start i) × (r < 4294967296) ⌝ }
 {
-    numbers::u32_at(b, segment_at(h, i) + 1)
+    numbers::u32_at(q, 9 * i + 1)
 }
 
-pub fn stop(b: &[u8], h: Head, i: usize) -> usize
-    requires { ⌜ Whole (now b) h × i < h .segments ⌝ }
-    ensures { λ r. ⌜ (r ≡ jobOf (now (b .entry)) h .stop i) × (r < 4294967296) ⌝ }
+pub fn stop(q: &[u8], i: usize) -> usize
+    requires { ⌜ i < segmentsOf (now q) .count ⌝ }
+    ensures { λ r. ⌜ (r ≡ segmentsOf (now (q .entry)) .stop i) × (r < 4294967296) ⌝ }
 {
-    numbers::u32_at(b, segment_at(h, i) + 5)
+    numbers::u32_at(q, 9 * i + 5)
 }
 
 // An atom's serial, its role, and its residue and chain, where 65535 is none.
