@@ -3,7 +3,7 @@ use Prim.Native.Nat.{ℕ, _<_, _≤_}
 use mathlib.Core.Bool.{Bool, true, false, _&&_}
 use mathlib.Core.Path.{_≡_}
 use lib.Dec.{leb}
-use Rattle.protein.specs.Job.{Job}
+use Rattle.protein.specs.Job.{Job, Segments}
 use Rattle.stretch.specs.declared.Range.{Range}
 use Rattle.stretch.specs.declared.Order.{Order}
 use Rattle.stretch.specs.declared.Part.{Part}
@@ -29,6 +29,10 @@ pub record Splits (f : ℕ → ℕ) (m n v r : ℕ) : Type 0 where
   pub few : r ≤ n
   pub below : (a : ℕ) → m ≤ a → a < r → f a < v
   pub above : (a : ℕ) → r ≤ a → a < n → v ≤ f a
+
+-- segment i's serials
+abbrev pub range : Segments → ℕ → Range
+range G i = record { start = G .start i; stop = G .stop i }
 
 -- 'serials from start to end inclusive'
 unfoldable pub inside : Range → ℕ → Bool

@@ -5,8 +5,8 @@ ghost use mathlib.Core.Path.{_≡_};
 ghost use mathlib.Core.Bool.{true};
 ghost use Prim.Native.Nat.{ℕ, _+_, _≤_, _<_};
 ghost use Rattle.protein.specs.Layout.{Whole};
-ghost use Rattle.protein.specs.Job.{jobOf};
-ghost use Rattle.stretch.specs.Stretch.{Run, Orders, inside, ranged, Splits, In, Holds, Outside, Reaches, Spans, Widened};
+ghost use Rattle.protein.specs.Job.{jobOf, segmentsOf};
+ghost use Rattle.stretch.specs.Stretch.{Run, Orders, range, inside, ranged, Splits, In, Holds, Outside, Reaches, Spans, Widened};
 
 // Serial numbers from start to stop, both included.
 pub struct Range {
@@ -18,6 +18,16 @@ pub struct Range {
 pub struct Part {
     pub from: usize,
     pub to: usize,
+}
+
+// The serials of segment i of the records q.
+pub fn range_at(q: &[u8], i: usize) -> Range
+    requires { ⌜ i < segmentsOf (now q) .count ⌝ }
+    ensures { λ r. ⌜ (r ≡ range (segmentsOf (now (q .entry))) i) × (r .stop < 4294967296) ⌝ }
+{
+    let start = protein::start(q, i);
+    let stop = protein::stop(q, i);
+    Range { start, stop }
 }
 
 // Whether a serial is in a range.
