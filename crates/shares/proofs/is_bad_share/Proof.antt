@@ -23,5 +23,4 @@ returns-3 c =
     (c .is-meeting .ensures)
 
 pub is-bad-share-spec : {M : Type 1} → statement M
-is-bad-share-spec =
-    tie.close (tie.spec (λ c κs. search needs) returns (λ c κs. search needs) returns-2 (λ c κs. search needs) returns-3)
+is-bad-share-spec = tie.close (tie.spec (λ c κs. search needs) returns (λ c κs. search needs) returns-2 (λ c κs. search needs) returns-3)
