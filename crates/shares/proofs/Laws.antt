@@ -27,10 +27,12 @@ lentBack s l xs = take (s .start) l ++ (xs ++ drop (s .start + s .len - s .start
 lent-length : (a n : ℕ) → a + n - a ≡ n
 lent-length a n = omega arith
 
+-- what is lent is the share
 pub part-as : {A : Type 0} (s : Share) (l : List A) → lentPart s l ≡ part s l
 unfolding part
 part-as s l = ap (λ (n : ℕ). take n (drop (s .start) l)) (lent-length (s .start) (s .len))
 
+-- what is given back stands in its place
 pub back-as : {A : Type 0} (s : Share) (l xs : List A) → lentBack s l xs ≡ within s l xs
 unfolding within
 back-as s l xs = ap (λ (n : ℕ). take (s .start) l ++ (xs ++ drop n (drop (s .start) l))) (lent-length (s .start) (s .len))
@@ -47,12 +49,14 @@ pub part-at : {A : Type 0} (s : Share) (l : List A) (i : ℕ) (d : A) → i < s 
 unfolding part
 part-at s l i d h = getD-take (s .len) (drop (s .start) l) i d h ∙ getD-drop (s .start) l i d
 
+-- a share that lies in the buffer has all its places
 pub length-part : {A : Type 0} (s : Share) (l : List A) → s .start + s .len ≤ length l → length (part s l) ≡ s .len
 unfolding part
 length-part s l f = simp (length-take, length-drop) (omega arith)
 
 -- where the share lies in the buffer, and xs is as long
 module _ {A : Type 0} (s : Share) (l xs : List A) (f : s .start + s .len ≤ length l) (n : length xs ≡ s .len) where
+  -- the buffer stays as long as it was
   pub length-within : length (within s l xs) ≡ length l
   unfolding within
   length-within = simp (length-append, length-take, length-drop) (omega arith)
@@ -61,6 +65,7 @@ module _ {A : Type 0} (s : Share) (l xs : List A) (f : s .start + s .len ≤ len
   front : length (take (s .start) l) ≡ s .start
   front = length-take-le (s .start) l (omega arith)
 
+  -- what stands from its start on
   drop-within : drop (s .start) (within s l xs) ≡ xs ++ drop (s .len) (drop (s .start) l)
   unfolding within
   drop-within = drop-at (take (s .start) l) (xs ++ drop (s .len) (drop (s .start) l)) (s .start) front
@@ -79,23 +84,25 @@ module _ {A : Type 0} (s : Share) (l xs : List A) (f : s .start + s .len ≤ len
       let b : drop (s .start) (take (s .start) l ++ (xs ++ d)) ≡ xs ++ d = drop-within in
       rw (t, b, drop-at xs d (s .len) n)
 
-  -- a place before it, a place behind it, a place of it
+  -- a place before it is as it was
   pub place-before : (i : ℕ) (d : A) → i < s .start → getD (within s l xs) i d ≡ getD l i d
   unfolding within
   place-before i d h =
       List·getD-append (take (s .start) l) (xs ++ drop (s .len) (drop (s .start) l)) d i (omega (arith, front))
       ∙ getD-take (s .start) l i d h
 
-  -- place j of what stands from its start on
+  -- and place j of that
   from-start : (j : ℕ) (d : A) → getD (within s l xs) (s .start + j) d ≡ getD (xs ++ drop (s .len) (drop (s .start) l)) j d
   unfolding within
   from-start j d =
       subst (λ (k : ℕ). getD (within s l xs) (k + j) d ≡ getD (xs ++ drop (s .len) (drop (s .start) l)) j d) front
       (getD-append-add (take (s .start) l) (xs ++ drop (s .len) (drop (s .start) l)) j d)
 
+  -- a place of it is one of what was put there
   pub inside : (i : ℕ) (d : A) → i < s .len → getD (within s l xs) (s .start + i) d ≡ getD xs i d
   inside i d h = from-start i d ∙ List·getD-append xs (drop (s .len) (drop (s .start) l)) d i (omega arith)
 
+  -- a place behind it is as it was
   pub place-behind : (i : ℕ) (d : A) → s .start + s .len ≤ i → getD (within s l xs) i d ≡ getD l i d
   place-behind i d h =
       let r = drop (s .len) (drop (s .start) l) in
@@ -155,13 +162,15 @@ part-apart m k l xs f g n w =
 -- ---- all six
 
 -- six buffers are the same where each is, and six sizes
-pub outs-same : {x y : Outs} → x .positions ≡ y .positions → x .normals ≡ y .normals → x .tags ≡ y .tags → x .triangles ≡ y .triangles → x .tubes ≡ y .tubes → x .boxes ≡ y .boxes → x ≡ y
+pub outs-same : {x y : Outs} → x .positions ≡ y .positions → x .normals ≡ y .normals → x .tags ≡ y .tags
+    → x .triangles ≡ y .triangles → x .tubes ≡ y .tubes → x .boxes ≡ y .boxes → x ≡ y
 outs-same {x} {y} p n g t r b =
     let e : outs (x .positions) (x .normals) (x .tags) (x .triangles) (x .tubes) (x .boxes)
     ≡ outs (y .positions) (y .normals) (y .tags) (y .triangles) (y .tubes) (y .boxes) = cc in
     e
 
-pub sizes-same : {x y : Sizes} → x .positions ≡ y .positions → x .normals ≡ y .normals → x .tags ≡ y .tags → x .triangles ≡ y .triangles → x .tubes ≡ y .tubes → x .boxes ≡ y .boxes → x ≡ y
+pub sizes-same : {x y : Sizes} → x .positions ≡ y .positions → x .normals ≡ y .normals → x .tags ≡ y .tags
+    → x .triangles ≡ y .triangles → x .tubes ≡ y .tubes → x .boxes ≡ y .boxes → x ≡ y
 sizes-same {x} {y} p n g t r b =
     let e : sizes (x .positions) (x .normals) (x .tags) (x .triangles) (x .tubes) (x .boxes)
     ≡ sizes (y .positions) (y .normals) (y .tags) (y .triangles) (y .tubes) (y .boxes) = cc in
@@ -188,6 +197,7 @@ lentBacks m o x =
     (lentBack (m .tubes) (o .tubes) (x .tubes))
     (lentBack (m .boxes) (o .boxes) (x .boxes))
 
+-- what is lent is what the shares hold
 pub parts-as : (m : Shares) (o : Outs) → lentParts m o ≡ shareOf m o
 unfolding shareOf
 parts-as m o =
@@ -199,6 +209,7 @@ parts-as m o =
     (part-as (m .tubes) (o .tubes))
     (part-as (m .boxes) (o .boxes))
 
+-- what is given back stands in their place
 pub backs-as : (m : Shares) (o x : Outs) → lentBacks m o x ≡ withShare m o x
 unfolding withShare
 backs-as m o x =
@@ -210,7 +221,7 @@ backs-as m o x =
     (back-as (m .tubes) (o .tubes) (x .tubes))
     (back-as (m .boxes) (o .boxes) (x .boxes))
 
--- THE law of a call that is lent six shares: what it makes of them stands in their place
+-- THE law of a call that is lent six shares, whatever it does with them: what it made stands in their place
 pub lent-back : (work : Outs → Outs) (m : Shares) (o x : Outs) → x ≡ work (lentParts m o) → lentBacks m o x ≡ withShare m o (work (shareOf m o))
 lent-back work m o x e = backs-as m o x ∙ ap (withShare m o) (e ∙ ap work (parts-as m o))
 
@@ -258,6 +269,7 @@ with-share m o =
     (within-part (m .tubes) (o .tubes))
     (within-part (m .boxes) (o .boxes))
 
+-- shares that lie in the buffers have all their places
 pub sizes-share : (m : Shares) (o : Outs) → Fits m o → sizesOf (shareOf m o) ≡ shareSizes m
 unfolding shareOf
 sizes-share m o F =
@@ -271,6 +283,7 @@ sizes-share m o F =
 
 -- where the shares lie in the buffers o, and x is as long
 module _ (m : Shares) (o x : Outs) (F : Fits m o) (e : sizesOf x ≡ shareSizes m) where
+  -- the buffers stay as long as they were
   pub sizes-with : sizesOf (withShare m o x) ≡ sizesOf o
   unfolding withShare
   sizes-with =
@@ -338,6 +351,7 @@ module _ (m k : Shares) where
         bad-swap (n .boxes) (m .boxes) (k .boxes),
       )
 
+  -- they lie in the buffers, and do not overlap
   pub good-fits : (o : Outs) → badShares (sizesOf o) m k ≡ false → Fits m o × Fits k o × Apart m k
   unfolding badShares
   good-fits o e =
@@ -357,6 +371,7 @@ module _ (m k : Shares) where
         record { positions = p .2; normals = n .2; tags = g .2; triangles = t .2; tubes = r .2; boxes = b .2 },
       )
 
+  -- and where they do, they pass
   pub fits-good : (o : Outs) → Fits m o → Fits k o → Apart m k → badShares (sizesOf o) m k ≡ false
   unfolding badShares
   fits-good o F G W =
