@@ -56,7 +56,7 @@ module _ (a b : Share) where
 
 -- ---- what the tests mean
 
--- neither leaves the buffer
+-- one that does not leave the buffer lies in it, and the other way
 pub leaves-not : (n : ℕ) (s : Share) → leaves n s ≡ false → s .start + s .len ≤ n
 unfolding leaves
 leaves-not n s e = ltb-false n (s .start + s .len) e
@@ -65,11 +65,13 @@ pub not-leaves : (n : ℕ) (s : Share) → s .start + s .len ≤ n → leaves n 
 unfolding leaves
 not-leaves n s h = le-ltb n (s .start + s .len) h
 
+-- one of two tests is false
 and-no : (a b : Bool) → (a && b) ≡ false → (a ≡ false) ⊎ (b ≡ false)
 and-no true b e = inr e
 and-no false b e = inl refl
 
 module _ (a b : Share) where
+  -- two that do not overlap: one is empty, or one ends before the other starts
   pub meets-not : meets a b ≡ false → Clear a b
   unfolding meets
   meets-not e =
@@ -90,9 +92,11 @@ module _ (a b : Share) where
   unfolding meets
   starts-behind h = rw (le-ltb (a .start) (b .start + b .len) h) (simp and-false)
 
+  -- and the other way
   pub not-meets : Clear a b → meets a b ≡ false
   not-meets w = ⊎-elim (λ e. sym (meets-none a b e)) (⊎-elim (λ e. sym (meets-none-2 a b e)) (⊎-elim ends-before starts-behind)) w
 
+  -- whose comes first does not matter
   pub meets-sym : meets a b ≡ meets b a
   unfolding meets
   meets-sym = go (ltb 0 (a .len)) (ltb 0 (b .len)) (ltb (a .start) (b .start + b .len)) (ltb (b .start) (a .start + a .len))
@@ -104,6 +108,7 @@ module _ (a b : Share) where
       go false false u v = refl
 
 module _ (n : ℕ) (a b : Share) where
+  -- two that pass lie in the buffer and do not overlap
   pub bad-not : badShare n a b ≡ false → (a .start + a .len ≤ n) × (b .start + b .len ≤ n) × Clear a b
   unfolding badShare
   bad-not e =
@@ -111,10 +116,12 @@ module _ (n : ℕ) (a b : Share) where
       let q = or-no (leaves n b) (meets a b) (p .1) in
       (leaves-not n a (p .0), leaves-not n b (q .0), meets-not a b (q .1))
 
+  -- and the other way
   pub not-bad : a .start + a .len ≤ n → b .start + b .len ≤ n → Clear a b → badShare n a b ≡ false
   unfolding badShare
   not-bad f g w = rw (not-leaves n a f, not-leaves n b g, not-meets a b w)
 
+  -- whose comes first does not matter
   pub bad-swap : badShare n a b ≡ badShare n b a
   unfolding badShare
   bad-swap = rw (meets-sym a b) (go (leaves n a) (leaves n b) (meets b a))
