@@ -6,13 +6,14 @@ use mathlib.Core.Logic.{⊎-elim}
 use native.Mathlib.Nat.{le-of-suc-le-suc, eq-or-lt-of-le}
 use native.Mathlib.Omega.{arith}
 use lib.ListN.{length}
-use lib.Dec.{eqb}
-use borrow.Author.Tests.{ltb-false, le-ltb, ne-eqb, not-true}
+use lib.Dec.{eqb, ltb}
+use borrow.Author.Tests.{ltb-false, lt-ltb, le-ltb, ne-eqb, not-true}
 use Rattle.tables.specs.Wants.{gives, wants}
-use Rattle.protein.specs.Job.{Job}
+use Rattle.protein.specs.Job.{Job, Segments}
+use Rattle.stretch.specs.Stretch.{range}
 use Rattle.stretch.specs.declared.Range.{Range}
 use Rattle.tables.specs.declared.Want.the-variants.{Alpha, SegmentAlpha}
-use Rattle.tubes.specs.Tubes.{range, coilAlpha, segmentAlpha, frames, counts, any, covered}
+use Rattle.tubes.specs.Tubes.{coilAlpha, segmentAlpha, frames, counts, any, takes, covered}
 use Rattle.tubes.proofs.Laws.{given-above}
 use Rattle.lists.proofs.Bools.{and-left, and-right}
 use Rattle.lists.proofs.Searches.{Some, last-some, some-first}
@@ -43,20 +44,22 @@ alpha-of J g r a e =
     let y = and-left (eqb (J .role a) 1) _ (and-right (eqb (J .residue a) r) _ e) in
     rw (x, y)
 
-pub segment-placed : (J : Job) (i r : ℕ) → 0 < segmentAlpha J i r → 0 < coilAlpha J r
+pub segment-placed : (J : Job) (g : Range) (r : ℕ) → 0 < segmentAlpha J g r → 0 < coilAlpha J r
 unfolding segmentAlpha coilAlpha
-segment-placed J i r h =
-    let a = last-some (gives J (SegmentAlpha (range J i)) r) (J .atoms) h in
-    some-first (gives J Alpha r) (J .atoms) (a .0) (a .1 .0) (alpha-of J (range J i) r (a .0) (a .1 .1))
+segment-placed J g r h =
+    let a = last-some (gives J (SegmentAlpha g) r) (J .atoms) h in
+    some-first (gives J Alpha r) (J .atoms) (a .0) (a .1 .0) (alpha-of J g r (a .0) (a .1 .1))
 
 -- the segment that covers a residue
-pub covered-some : (J : Job) (r : ℕ) → covered J r ≡ true → (i : ℕ) × ((i < J .segments) × ((2 ≤ length (frames J i)) × (0 < segmentAlpha J i r)))
+pub covered-some : (J : Job) (G : Segments) (r : ℕ) → covered J G r ≡ true
+    → (i : ℕ) × ((i < G .count) × ((2 ≤ length (frames J (range G i))) × (0 < segmentAlpha J (range G i) r)))
 unfolding covered counts
-covered-some J r e =
-    let s = any-some _ (J .segments) e in
-    (s .0, (s .1 .0, (ltb-false _ _ (not-true _ (and-left _ _ (s .1 .1))), given-above _ (and-right (counts J (s .0)) _ (s .1 .1)))))
+covered-some J G r e =
+    let s = any-some (λ i. takes J (range G i) r) (G .count) (and-right (ltb r (J .residues)) _ e) in
+    (s .0, (s .1 .0, (ltb-false _ _ (not-true _ (and-left _ _ (s .1 .1))), given-above _ (and-right (counts J (range G (s .0))) _ (s .1 .1)))))
 
-pub covered-any : (J : Job) (r i : ℕ) → i < J .segments → 2 ≤ length (frames J i) → 0 < segmentAlpha J i r → covered J r ≡ true
+pub covered-any : (J : Job) (G : Segments) (r i : ℕ) → r < J .residues → i < G .count → 2 ≤ length (frames J (range G i)) → 0 < segmentAlpha J (range G i) r → covered J G r ≡ true
 unfolding covered counts
-covered-any J r i l two h =
-    some-any _ (J .segments) i l (rw (le-ltb (length (frames J i)) 2 two, ne-eqb (segmentAlpha J i r) 0 (λ e. omega arith)))
+covered-any J G r i below l two h =
+    rw (lt-ltb r (J .residues) below)
+    (some-any (λ k. takes J (range G k) r) (G .count) i l (rw (le-ltb (length (frames J (range G i))) 2 two, ne-eqb (segmentAlpha J (range G i) r) 0 (λ e. omega arith))))

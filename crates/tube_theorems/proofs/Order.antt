@@ -11,10 +11,11 @@ use lib.ListN.{length, getD, length-append}
 use lib.Dec.{ltb}
 use borrow.Author.Tests.{ltb-false}
 use Rattle.tables.specs.Wants.{chainOf}
-use Rattle.protein.specs.Job.{Job}
+use Rattle.protein.specs.Job.{Job, Segments}
+use Rattle.stretch.specs.Stretch.{range}
 use Rattle.tubes.specs.Frames.{chosen}
 use Rattle.tubes.specs.Pieces.{glue, pieces, apart}
-use Rattle.tubes.specs.Tubes.{Tube, given, shown, coilAlpha, segmentAlpha, frames, counts, covered, gap, tubeOf, tubesOf, runTubes, segmentTubes, joined, loose, leads, joins, extended, coilTubes, tubes}
+use Rattle.tubes.specs.Tubes.{Tube, given, shown, coilAlpha, segmentAlpha, frames, counts, covered, gap, tubeOf, tubesOf, runTubes, segmentTube, segmentTubes, joined, loose, leads, joins, extended, coilTubes, tubes}
 use Rattle.tubes.specs.declared.Source.{Source}
 use Rattle.tubes.specs.declared.Source.the-variants.{Coils, Segment}
 use Rattle.mesh.specs.Mesh.{firstOf}
@@ -168,15 +169,15 @@ chosen-linked p (suc n) = go (chosen-linked p n) (p n) refl
 chosen-rising : (p : ℕ → Bool) (n : ℕ) → Rising (λ y. p y ≡ true) 0 (chosen p n)
 chosen-rising p n = linked-map _ _ Less (λ y c. (c .0, omega arith)) (chosen p n) (chosen-linked p n)
 
-module _ (J : Job) (far : ℕ → ℕ → Bool) where
-  segment-order : (i : ℕ) → InOrder Earlier (segmentTubes J far i)
-  unfolding segmentTubes frames
-  segment-order i = go (counts J i && shown J (getD (frames J i) 0 0))
+module _ (J : Job) (G : Segments) (far : ℕ → ℕ → Bool) where
+  segment-order : (i : ℕ) → InOrder Earlier (segmentTubes J G far i)
+  unfolding segmentTube frames
+  segment-order i = go (counts J (range G i) && shown J (getD (frames J (range G i)) 0 0))
     where
-      go : (b : Bool) → InOrder Earlier (cond b (runTubes (Segment i) (J .kind i) (gap J far (Segment i)) (pieces (apart (chainOf J)) (frames J i))) [])
+      go : (b : Bool) → InOrder Earlier (cond b (runTubes (Segment i (range G i)) (G .kind i) (gap J far (Segment i (range G i))) (pieces (apart (chainOf J)) (frames J (range G i)))) [])
       go true =
-          runs-within (Segment i) (J .kind i) suc (λ n. omega arith) _ (gap J far (Segment i)) 0 _
-          (pieces-stacked (λ y. given (segmentAlpha J i y) ≡ true) (apart (chainOf J)) 0 _ (chosen-rising (λ r. given (segmentAlpha J i r)) (J .residues))) .1
+          runs-within (Segment i (range G i)) (G .kind i) suc (λ n. omega arith) _ (gap J far (Segment i (range G i))) 0 _
+          (pieces-stacked (λ y. given (segmentAlpha J (range G i) y) ≡ true) (apart (chainOf J)) 0 _ (chosen-rising (λ r. given (segmentAlpha J (range G i) r)) (J .residues))) .1
       go false = tt
 
 -- ---- a run with its neighbours ends before the next begins
@@ -203,15 +204,15 @@ extended-some : (join : ℕ → ℕ → Bool) (x : ℕ) (xs : List ℕ) → 1 �
 unfolding extended
 extended-some join x xs = simp length-append (omega arith)
 
-module _ (J : Job) where
+module _ (J : Job) (cov : ℕ → Bool) where
   abbrev Loose : ℕ → Type 0
-  Loose y = loose J y ≡ true
+  Loose y = loose J cov y ≡ true
 
   -- a residue that joins a run is covered, so it is not loose
-  joined-not : (r to : ℕ) → joins J r to ≡ true → loose J r ≡ false
+  joined-not : (r to : ℕ) → joins J cov r to ≡ true → loose J cov r ≡ false
   unfolding joins loose
   joined-not r to e =
-      let c : covered J r ≡ true = and-left _ _ (and-right (ltb r (J .residues)) _ e) in
+      let c : cov r ≡ true = and-left _ _ (and-right (ltb r (J .residues)) _ e) in
       rw c (go (shown J r) (given (coilAlpha J r)))
     where
       go : (a b : Bool) → (a && (b && false)) ≡ false
@@ -219,76 +220,77 @@ module _ (J : Job) where
       go true false = refl
       go false b = refl
 
-  raise : (lo : ℕ) (rs : List (List ℕ)) → loose J lo ≡ false → Stacked suc Loose lo rs → Stacked suc Loose (suc lo) rs
+  raise : (lo : ℕ) (rs : List (List ℕ)) → loose J cov lo ≡ false → Stacked suc Loose lo rs → Stacked suc Loose (suc lo) rs
   unfolding Stacked
   raise lo [] n s = tt
   raise lo (p ∷ ps) n s = (s .0, (linked-map _ _ Less (λ y c. (c .0, past y (c .0) (c .1))) p (s .1 .0), s .1 .1))
     where
-      past : (y : ℕ) → loose J y ≡ true → lo ≤ y → suc lo ≤ y
-      past y e h = ⊎-elim (λ q. let f : loose J y ≡ false = rw (← q) n in let z : _≡_ {A = ℕ} 0 1 = cc in absurd (omega arith)) (λ l. l) (eq-or-lt-of-le h)
+      past : (y : ℕ) → loose J cov y ≡ true → lo ≤ y → suc lo ≤ y
+      past y e h = ⊎-elim (λ q. let f : loose J cov y ≡ false = rw (← q) n in let z : _≡_ {A = ℕ} 0 1 = cc in absurd (omega arith)) (λ l. l) (eq-or-lt-of-le h)
 
-  runs-stacked : (rs : List (List ℕ)) (low lo : ℕ) → low ≤ lo - 1 → Stacked suc Loose lo rs → Stacked (λ n. n) (λ y. Unit) low (map (extended (joins J)) rs)
+  runs-stacked : (rs : List (List ℕ)) (low lo : ℕ) → low ≤ lo - 1 → Stacked suc Loose lo rs → Stacked (λ n. n) (λ y. Unit) low (map (extended (joins J cov)) rs)
   unfolding Stacked
   runs-stacked [] low lo h s = tt
   runs-stacked ([] ∷ rs) low lo h s = absurd (omega (arith, s .0))
   runs-stacked ((x ∷ xs) ∷ rs) low lo h s = (
-    extended-some (joins J) x xs,
+    extended-some (joins J cov) x xs,
     (
       rising,
-      rw (extended-last (joins J) x xs) (rest (runs-stacked rs) (joins J (lastOf x xs + 1) (lastOf x xs)) refl),
+      rw (extended-last (joins J cov) x xs) (rest (runs-stacked rs) (joins J cov (lastOf x xs + 1) (lastOf x xs)) refl),
     ),
   )
     where
-      rising : Rising (λ y. Unit) low (extended (joins J) (x ∷ xs))
+      rising : Rising (λ y. Unit) low (extended (joins J cov) (x ∷ xs))
       rising =
-          extended-linked (λ y. Loose y × (lo ≤ y)) (λ y. Unit × (low ≤ y)) Less (joins J) (λ y c. (tt, omega (arith, c .1)))
+          extended-linked (λ y. Loose y × (lo ≤ y)) (λ y. Unit × (low ≤ y)) Less (joins J cov) (λ y c. (tt, omega (arith, c .1)))
           (λ r e c. ((tt, omega (arith, c .1)), omega arith)) (λ z e c. ((tt, omega (arith, c .1)), omega arith)) (x ∷ xs) (s .0) (s .1 .0)
 
-      rest : ((low lo : ℕ) → low ≤ lo - 1 → Stacked suc Loose lo rs → Stacked (λ n. n) (λ y. Unit) low (map (extended (joins J)) rs))
-          → (b : Bool) → joins J (lastOf x xs + 1) (lastOf x xs) ≡ b → Stacked (λ n. n) (λ y. Unit) (cond b (lastOf x xs + 1) (lastOf x xs)) (map (extended (joins J)) rs)
+      rest : ((low lo : ℕ) → low ≤ lo - 1 → Stacked suc Loose lo rs → Stacked (λ n. n) (λ y. Unit) low (map (extended (joins J cov)) rs))
+          → (b : Bool) → joins J cov (lastOf x xs + 1) (lastOf x xs) ≡ b → Stacked (λ n. n) (λ y. Unit) (cond b (lastOf x xs + 1) (lastOf x xs)) (map (extended (joins J cov)) rs)
       rest all true e =
-          let n : loose J (suc (lastOf x xs)) ≡ false = rw add-one at (joined-not (lastOf x xs + 1) (lastOf x xs) e) in
+          let n : loose J cov (suc (lastOf x xs)) ≡ false = rw add-one at (joined-not (lastOf x xs + 1) (lastOf x xs) e) in
           all (lastOf x xs + 1) (suc (suc (lastOf x xs))) (omega arith) (raise (suc (lastOf x xs)) rs n (s .1 .1))
       rest all false e = all (lastOf x xs) (suc (lastOf x xs)) (omega arith) (s .1 .1)
 
   module _ (far : ℕ → ℕ → Bool) where
-    coils-order : InOrder Earlier (coilTubes J far)
+    coils-order : InOrder Earlier (coilTubes J cov far)
     unfolding coilTubes
     coils-order =
         runs-within Coils 0 (λ n. n) (λ n. omega arith) (λ y. Unit) (gap J far Coils) 0 _
-        (runs-stacked _ 0 0 (omega arith) (pieces-stacked Loose (apart (chainOf J)) 0 _ (chosen-rising (loose J) (J .residues)))) .1
+        (runs-stacked _ 0 0 (omega arith) (pieces-stacked Loose (apart (chainOf J)) 0 _ (chosen-rising (loose J cov) (J .residues)))) .1
 
-    -- ---- all tubes: the order of sources, and then this
+module _ (J : Job) (G : Segments) (far : ℕ → ℕ → Bool) where
+  -- ---- all tubes: the order of sources, and then this
 
-    by-source : (source : Source) (kind : ℕ) (P : List ℕ → Type 0) (us : List Tube) → Every (From source kind P) us → InOrder Earlier us → InOrder (Before J) us
-    by-source source kind P us a b = order-map (From source kind P) Earlier (Before J) (λ u v p q e. inr (p .source-is ∙ sym (q .source-is), e)) us a b
+  by-source : (source : Source) (kind : ℕ) (P : List ℕ → Type 0) (us : List Tube) → Every (From source kind P) us → InOrder Earlier us → InOrder (Before G) us
+  by-source source kind P us a b = order-map (From source kind P) Earlier (Before G) (λ u v p q e. inr (p .source-is ∙ sym (q .source-is), e)) us a b
 
-    segments-turns : (n : ℕ) → Every (λ u. turnOf J u < n) (joined (segmentTubes J far) n)
-    unfolding joined
-    segments-turns zero = tt
-    segments-turns (suc n) =
-        every-join _ (joined (segmentTubes J far) n) (segmentTubes J far n) (every-map _ _ (λ u h. omega (arith, h)) (joined (segmentTubes J far) n) (segments-turns n))
-        (every-map _ _ (λ u f. rw (f .source-is) (omega arith)) (segmentTubes J far n) (segment-from J far n))
+  segments-turns : (n : ℕ) → Every (λ u. turnOf G u < n) (joined (segmentTubes J G far) n)
+  unfolding joined
+  segments-turns zero = tt
+  segments-turns (suc n) =
+      every-join _ (joined (segmentTubes J G far) n) (segmentTubes J G far n) (every-map _ _ (λ u h. omega (arith, h)) (joined (segmentTubes J G far) n) (segments-turns n))
+      (every-map _ _ (λ u f. rw (f .source-is) (omega arith)) (segmentTubes J G far n) (segment-from J G far n))
 
-    segments-order : (n : ℕ) → InOrder (Before J) (joined (segmentTubes J far) n)
-    unfolding joined
-    segments-order zero = tt
-    segments-order (suc n) =
-        order-join (Before J) (joined (segmentTubes J far) n) (segmentTubes J far n) (segments-order n)
-        (by-source (Segment n) (J .kind n) _ (segmentTubes J far n) (segment-from J far n) (segment-order J far n))
-        (every-map _ _ (λ u h. every-map _ _ (λ v f. inl (rw (f .source-is) h)) (segmentTubes J far n) (segment-from J far n)) (joined (segmentTubes J far) n) (segments-turns n))
+  segments-order : (n : ℕ) → InOrder (Before G) (joined (segmentTubes J G far) n)
+  unfolding joined
+  segments-order zero = tt
+  segments-order (suc n) =
+      order-join (Before G) (joined (segmentTubes J G far) n) (segmentTubes J G far n) (segments-order n)
+      (by-source (Segment n (range G n)) (G .kind n) _ (segmentTubes J G far n) (segment-from J G far n) (segment-order J G far n))
+      (every-map _ _ (λ u h. every-map _ _ (λ v f. inl (rw (f .source-is) h)) (segmentTubes J G far n) (segment-from J G far n)) (joined (segmentTubes J G far) n) (segments-turns n))
 
-    pub all-order : InOrder (Before J) (tubes J far)
-    unfolding tubes
-    all-order =
-        order-join (Before J) (joined (segmentTubes J far) (J .segments)) (coilTubes J far) (segments-order (J .segments))
-        (by-source Coils 0 _ (coilTubes J far) (coils-from J far) coils-order)
-        (every-map _ _ (λ u h. every-map _ _ (λ v f. inl (rw (f .source-is) h)) (coilTubes J far) (coils-from J far)) (joined (segmentTubes J far) (J .segments)) (segments-turns (J .segments)))
+  pub all-order : InOrder (Before G) (tubes J G far)
+  unfolding tubes
+  all-order =
+      order-join (Before G) (joined (segmentTubes J G far) (G .count)) (coilTubes J (covered J G) far) (segments-order (G .count))
+      (by-source Coils 0 _ (coilTubes J (covered J G) far) (coils-from J G far (covered J G)) (coils-order J (covered J G) far))
+      (every-map _ _ (λ u h. every-map _ _ (λ v f. inl (rw (f .source-is) h)) (coilTubes J (covered J G) far) (coils-from J G far (covered J G))) (joined (segmentTubes J G far) (G .count)) (segments-turns (G .count)))
 
-    -- what stands before a tube is not that tube
-    pub all-once : InOrder (λ u v. u ≡ v → ⊥) (tubes J far)
-    all-once = order-map (λ u. Unit) (Before J) (λ u v. u ≡ v → ⊥) (λ u v p q b e. ⊎-elim (λ l. omega (arith, ap (turnOf J) e)) (λ l. omega (arith, l .1, ap firstOf e)) b) (tubes J far) (all (tubes J far)) all-order
-      where
-        all : (us : List Tube) → Every (λ u. Unit) us
-        all [] = tt
-        all (u ∷ us) = (tt, all us)
+  -- what stands before a tube is not that tube
+  pub all-once : InOrder (λ u v. u ≡ v → ⊥) (tubes J G far)
+  all-once = order-map (λ u. Unit) (Before G) (λ u v. u ≡ v → ⊥) (λ u v p q b e. ⊎-elim (λ l. omega (arith, ap (turnOf G) e)) (λ l. omega (arith, l .1, ap firstOf e)) b) (tubes J G far) (all (tubes J G far)) all-order
+    where
+      all : (us : List Tube) → Every (λ u. Unit) us
+      all [] = tt
+      all (u ∷ us) = (tt, all us)

@@ -5,9 +5,10 @@ use mathlib.Core.List.{List, [], _∷_}
 use mathlib.Core.Path.{_≡_, refl}
 use native.Mathlib.Omega.{arith}
 use Rattle.tables.specs.Wants.{chainOf}
-use Rattle.protein.specs.Job.{Job}
+use Rattle.protein.specs.Job.{Job, Segments}
+use Rattle.stretch.specs.Stretch.{range}
 use Rattle.tubes.specs.Pieces.{pieces, apart}
-use Rattle.tubes.specs.Tubes.{Tube, frames, gap, runTubes, segmentTubes, joined, coilTubes, tubes}
+use Rattle.tubes.specs.Tubes.{Tube, frames, gap, runTubes, segmentTube, segmentTubes, covered, joined, coilTubes, tubes}
 use Rattle.tubes.specs.declared.Source.{Source}
 use Rattle.tubes.specs.declared.Source.the-variants.{Coils, Segment}
 use Rattle.tubes.proofs.Laws.{pieces-ext}
@@ -32,18 +33,18 @@ unfolding joined
 joined-same f g zero h = refl
 joined-same f g (suc n) h = rw (joined-same f g n (λ i l. h i (omega arith)), h n (omega arith))
 
-module _ (J : Job) (far far' : ℕ → ℕ → Bool) (same : SameCuts J far far') where
-  segment-same : (i : ℕ) → i < J .segments → segmentTubes J far i ≡ segmentTubes J far' i
-  unfolding segmentTubes
+module _ (J : Job) (G : Segments) (far far' : ℕ → ℕ → Bool) (same : SameCuts J G far far') where
+  segment-same : (i : ℕ) → i < G .count → segmentTubes J G far i ≡ segmentTubes J G far' i
+  unfolding segmentTube
   segment-same i h =
-      let agree = pieces-neighbours (λ x y. gap J far (Segment i) x y ≡ gap J far' (Segment i) x y) (apart (chainOf J)) (frames J i) (same .segments i h) in
-      let e = runs-same (Segment i) (J .kind i) (gap J far (Segment i)) (gap J far' (Segment i)) (pieces (apart (chainOf J)) (frames J i)) agree in
+      let agree = pieces-neighbours (λ x y. gap J far (Segment i (range G i)) x y ≡ gap J far' (Segment i (range G i)) x y) (apart (chainOf J)) (frames J (range G i)) (same .segments i h) in
+      let e = runs-same (Segment i (range G i)) (G .kind i) (gap J far (Segment i (range G i))) (gap J far' (Segment i (range G i))) (pieces (apart (chainOf J)) (frames J (range G i))) agree in
       rw e
 
-  coils-same : coilTubes J far ≡ coilTubes J far'
+  coils-same : coilTubes J (covered J G) far ≡ coilTubes J (covered J G) far'
   unfolding coilTubes coilRuns
-  coils-same = runs-same Coils 0 (gap J far Coils) (gap J far' Coils) (coilRuns J) (same .coils)
+  coils-same = runs-same Coils 0 (gap J far Coils) (gap J far' Coils) (coilRuns J (covered J G)) (same .coils)
 
-  pub all-same : tubes J far ≡ tubes J far'
+  pub all-same : tubes J G far ≡ tubes J G far'
   unfolding tubes
-  all-same = rw (joined-same (segmentTubes J far) (segmentTubes J far') (J .segments) segment-same, coils-same)
+  all-same = rw (joined-same (segmentTubes J G far) (segmentTubes J G far') (G .count) segment-same, coils-same)

@@ -8,10 +8,11 @@ use native.Mathlib.Omega.{arith}
 use lib.ListN.{length, getD}
 use lib.Dec.{ltb}
 use Rattle.tables.specs.Wants.{chainOf}
-use Rattle.protein.specs.Job.{Job}
+use Rattle.protein.specs.Job.{Job, Segments}
+use Rattle.stretch.specs.Stretch.{range}
 use Rattle.tubes.specs.Frames.{chosen}
 use Rattle.tubes.specs.Pieces.{pieces, apart}
-use Rattle.tubes.specs.Tubes.{Tube, given, segmentAlpha, shown, frames, counts, gap, tubeOf, tubesOf, runTubes, segmentTubes, joined, loose, joins, extended, coilTubes, tubes}
+use Rattle.tubes.specs.Tubes.{Tube, given, segmentAlpha, shown, frames, counts, gap, tubeOf, tubesOf, runTubes, segmentTube, segmentTubes, covered, joined, loose, joins, extended, coilTubes, tubes}
 use Rattle.tubes.specs.declared.Source.{Source}
 use Rattle.tubes.specs.declared.Source.the-variants.{Coils, Segment}
 use Rattle.tubes.proofs.Laws.{chosen-length, frameCount, pieces-count}
@@ -57,36 +58,36 @@ extended-sizes join (r ∷ rs) a = omega (arith, a .0, extended-few join r, exte
 pieces-some : (cut : ℕ → ℕ → Bool) (l : List ℕ) → EachList (λ r. 1 ≤ length r) (pieces cut l)
 pieces-some cut l = each-map _ _ (λ r b. b .0) (pieces cut l) (pieces-linked (λ x. Unit) (λ x y. Unit) cut l (linked-from _ _ l (λ i h. tt) (λ i h. tt)))
 
-module _ (J : Job) (far : ℕ → ℕ → Bool) where
-  pub segment-sum : (i : ℕ) → frameSum (segmentTubes J far i) ≤ J .residues
-  unfolding segmentTubes frames frameSum
-  segment-sum i = go (counts J i && shown J (getD (frames J i) 0 0))
+module _ (J : Job) (G : Segments) (far : ℕ → ℕ → Bool) where
+  pub segment-sum : (i : ℕ) → frameSum (segmentTubes J G far i) ≤ J .residues
+  unfolding segmentTube frames frameSum
+  segment-sum i = go (counts J (range G i) && shown J (getD (frames J (range G i)) 0 0))
     where
-      go : (b : Bool) → frameSum (cond b (runTubes (Segment i) (J .kind i) (gap J far (Segment i)) (pieces (apart (chainOf J)) (frames J i))) []) ≤ J .residues
+      go : (b : Bool) → frameSum (cond b (runTubes (Segment i (range G i)) (G .kind i) (gap J far (Segment i (range G i))) (pieces (apart (chainOf J)) (frames J (range G i)))) []) ≤ J .residues
       go true =
           omega (
             arith,
-            runs-sum (Segment i) (J .kind i) (gap J far (Segment i)) (pieces (apart (chainOf J)) (frames J i)),
-            pieces-count (apart (chainOf J)) (frames J i),
-            chosen-length (λ r. given (segmentAlpha J i r)) (J .residues),
+            runs-sum (Segment i (range G i)) (G .kind i) (gap J far (Segment i (range G i))) (pieces (apart (chainOf J)) (frames J (range G i))),
+            pieces-count (apart (chainOf J)) (frames J (range G i)),
+            chosen-length (λ r. given (segmentAlpha J (range G i) r)) (J .residues),
           )
       go false = omega arith
 
-  pub coils-sum : frameSum (coilTubes J far) ≤ 3 * J .residues
+  pub coils-sum : (cov : ℕ → Bool) → frameSum (coilTubes J cov far) ≤ 3 * J .residues
   unfolding coilTubes
-  coils-sum =
-      let l = chosen (loose J) (J .residues) in
+  coils-sum cov =
+      let l = chosen (loose J cov) (J .residues) in
       let rs = pieces (apart (chainOf J)) l in
-      omega (arith, runs-sum Coils 0 (gap J far Coils) (map (extended (joins J)) rs), extended-sizes (joins J) rs (pieces-some _ l), pieces-count (apart (chainOf J)) l, chosen-length (loose J) (J .residues))
+      omega (arith, runs-sum Coils 0 (gap J far Coils) (map (extended (joins J cov)) rs), extended-sizes (joins J cov) rs (pieces-some _ l), pieces-count (apart (chainOf J)) l, chosen-length (loose J cov) (J .residues))
 
-  segments-sum : (n : ℕ) → frameSum (joined (segmentTubes J far) n) ≤ n * J .residues
+  segments-sum : (n : ℕ) → frameSum (joined (segmentTubes J G far) n) ≤ n * J .residues
   unfolding joined frameSum
   segments-sum zero = omega arith
-  segments-sum (suc n) = omega (arith, sum-join (joined (segmentTubes J far) n) (segmentTubes J far n), segments-sum n, segment-sum n, suc-mul n (J .residues))
+  segments-sum (suc n) = omega (arith, sum-join (joined (segmentTubes J G far) n) (segmentTubes J G far n), segments-sum n, segment-sum n, suc-mul n (J .residues))
 
-  pub tubes-frames : frameSum (tubes J far) ≤ J .segments * J .residues + 3 * J .residues
+  pub tubes-frames : frameSum (tubes J G far) ≤ G .count * J .residues + 3 * J .residues
   unfolding tubes
-  tubes-frames = omega (arith, sum-join (joined (segmentTubes J far) (J .segments)) (coilTubes J far), segments-sum (J .segments), coils-sum)
+  tubes-frames = omega (arith, sum-join (joined (segmentTubes J G far) (G .count)) (coilTubes J (covered J G) far), segments-sum (G .count), coils-sum (covered J G))
 
 -- ---- vertices and triangles: 64 and 128 a frame, but for 54 and 112 a tube
 

@@ -9,11 +9,13 @@ use lib.ListN.{length, getD}
 use lib.Dec.{ltb}
 use borrow.Author.Tests.{ltb-true, ltb-false, eqb-true, eq-eqb}
 use Rattle.tables.specs.Wants.{chainOf}
-use Rattle.protein.specs.Job.{Job}
+use Rattle.protein.specs.Job.{Job, Segments}
+use Rattle.stretch.specs.Stretch.{range}
+use Rattle.stretch.specs.declared.Range.{Range}
 use Rattle.tubes.specs.Frames.{chosen}
 use Rattle.tubes.specs.Lists.{Each, Consecutive}
 use Rattle.tubes.specs.Pieces.{pieces, apart}
-use Rattle.tubes.specs.Tubes.{Tube, given, shown, coilAlpha, segmentAlpha, alphaOf, frames, counts, covered, gap, tubeOf, tubesOf, runTubes, segmentTubes, joined, loose, joins, extended, coilTubes, tubes}
+use Rattle.tubes.specs.Tubes.{Tube, given, shown, coilAlpha, segmentAlpha, alphaOf, frames, counts, covered, gap, tubeOf, tubesOf, runTubes, segmentTube, segmentTubes, joined, loose, joins, extended, coilTubes, tubes}
 use Rattle.tubes.specs.declared.Source.{Source}
 use Rattle.tubes.specs.declared.Source.the-variants.{Coils, Segment}
 use Rattle.tubes.proofs.Laws.{uncut-consecutive, uncut-chain, chosen-below, chosen-true, given-above}
@@ -90,11 +92,11 @@ unfolding apart
 together J x y e c = rw (eq-eqb y (x + 1) e, eq-eqb (chainOf J y) (chainOf J x) c)
 
 module _ (J : Job) where
-  frames-linked : (i : ℕ) → Linked (Frame J (Segment i)) (λ x y. Unit) (frames J i)
+  frames-linked : (i : ℕ) (g : Range) → Linked (Frame J (Segment i g)) (λ x y. Unit) (frames J g)
   unfolding frames alphaOf
-  frames-linked i =
-      linked-from _ _ (frames J i)
-      (λ k h. (chosen-below _ (J .residues) k h, given-above _ (chosen-true (λ r. given (segmentAlpha J i r)) (J .residues) k h)))
+  frames-linked i g =
+      linked-from _ _ (frames J g)
+      (λ k h. (chosen-below _ (J .residues) k h, given-above _ (chosen-true (λ r. given (segmentAlpha J g r)) (J .residues) k h)))
       (λ k h. tt)
 
   -- any frames, cut into runs
@@ -103,58 +105,59 @@ module _ (J : Job) where
       each-map _ _ (λ r b. (b .0, linked-weak P (λ x y. Unit × Together J x y) (Together J) (λ x y s. s .1) r (b .1))) (pieces (apart (chainOf J)) l)
       (pieces-linked P (λ x y. Unit) (apart (chainOf J)) l a)
 
-  segment-runs : (i : ℕ) → EachList (Linked (Frame J (Segment i)) (Together J)) (pieces (apart (chainOf J)) (frames J i))
-  segment-runs i = each-map _ _ (λ r b. b .1) (pieces (apart (chainOf J)) (frames J i)) (runs-linked (Frame J (Segment i)) (frames J i) (frames-linked i))
+  segment-runs : (i : ℕ) (g : Range) → EachList (Linked (Frame J (Segment i g)) (Together J)) (pieces (apart (chainOf J)) (frames J g))
+  segment-runs i g = each-map _ _ (λ r b. b .1) (pieces (apart (chainOf J)) (frames J g)) (runs-linked (Frame J (Segment i g)) (frames J g) (frames-linked i g))
 
-  loose-linked : Linked (Frame J Coils) (λ x y. Unit) (chosen (loose J) (J .residues))
-  unfolding alphaOf loose
-  loose-linked =
-      linked-from _ _ (chosen (loose J) (J .residues))
-      (λ k h.
-      let e = and-left _ _ (and-right (shown J _) _ (chosen-true (loose J) (J .residues) k h)) in
-      (chosen-below _ (J .residues) k h, given-above _ e))
-      (λ k h. tt)
+  module _ (cov : ℕ → Bool) where
+    loose-linked : Linked (Frame J Coils) (λ x y. Unit) (chosen (loose J cov) (J .residues))
+    unfolding alphaOf loose
+    loose-linked =
+        linked-from _ _ (chosen (loose J cov) (J .residues))
+        (λ k h.
+        let e = and-left _ _ (and-right (shown J _) _ (chosen-true (loose J cov) (J .residues) k h)) in
+        (chosen-below _ (J .residues) k h, given-above _ e))
+        (λ k h. tt)
 
-  joins-frame : (r to : ℕ) → joins J r to ≡ true → Frame J Coils r × (chainOf J r ≡ chainOf J to)
-  unfolding joins alphaOf
-  joins-frame r to e =
-      let a = and-right (ltb r (J .residues)) _ e in
-      let b = and-right (covered J r) _ a in
-      ((ltb-true _ _ (and-left _ _ e), given-above _ (and-left _ _ b)), eqb-true _ _ (and-right (given (coilAlpha J r)) _ b))
+    joins-frame : (r to : ℕ) → joins J cov r to ≡ true → Frame J Coils r × (chainOf J r ≡ chainOf J to)
+    unfolding joins alphaOf
+    joins-frame r to e =
+        let a = and-right (ltb r (J .residues)) _ e in
+        let b = and-right (cov r) _ a in
+        ((ltb-true _ _ (and-left _ _ e), given-above _ (and-left _ _ b)), eqb-true _ _ (and-right (given (coilAlpha J r)) _ b))
 
-  -- the runs of the coils, with the neighbours that join them
-  coil-runs : (rs : List (List ℕ)) → EachList (λ l. (1 ≤ length l) × Linked (Frame J Coils) (Together J) l) rs → EachList (Linked (Frame J Coils) (Together J)) (map (extended (joins J)) rs)
-  coil-runs [] a = tt
-  coil-runs (r ∷ rs) a = (
-    extended-linked (Frame J Coils) (Frame J Coils) (Together J) (joins J) (λ x f. f)
-        (λ x e f. let b = joins-frame x (suc x) e in (b .0, together J x (suc x) (omega arith) (sym (b .1))))
-        (λ z e f. let b = joins-frame (z + 1) z e in (b .0, together J z (z + 1) refl (b .1)))
-        r (a .0 .0) (a .0 .1),
-    coil-runs rs (a .1),
-  )
+    -- the runs of the coils, with the neighbours that join them
+    coil-runs : (rs : List (List ℕ)) → EachList (λ l. (1 ≤ length l) × Linked (Frame J Coils) (Together J) l) rs → EachList (Linked (Frame J Coils) (Together J)) (map (extended (joins J cov)) rs)
+    coil-runs [] a = tt
+    coil-runs (r ∷ rs) a = (
+      extended-linked (Frame J Coils) (Frame J Coils) (Together J) (joins J cov) (λ x f. f)
+          (λ x e f. let b = joins-frame x (suc x) e in (b .0, together J x (suc x) (omega arith) (sym (b .1))))
+          (λ z e f. let b = joins-frame (z + 1) z e in (b .0, together J z (z + 1) refl (b .1)))
+          r (a .0 .0) (a .0 .1),
+      coil-runs rs (a .1),
+    )
 
-  module _ (far : ℕ → ℕ → Bool) where
-    pub segment-from : (i : ℕ) → Every (From (Segment i) (J .kind i) (Linked (Frame J (Segment i)) (Near J far (Segment i)))) (segmentTubes J far i)
-    unfolding segmentTubes
-    segment-from i = go (counts J i && shown J (getD (frames J i) 0 0))
+  module _ (G : Segments) (far : ℕ → ℕ → Bool) where
+    pub segment-from : (i : ℕ) → Every (From (Segment i (range G i)) (G .kind i) (Linked (Frame J (Segment i (range G i))) (Near J far (Segment i (range G i))))) (segmentTubes J G far i)
+    unfolding segmentTube
+    segment-from i = go (counts J (range G i) && shown J (getD (frames J (range G i)) 0 0))
       where
-        go : (b : Bool) → Every (From (Segment i) (J .kind i) (Linked (Frame J (Segment i)) (Near J far (Segment i))))
-            (cond b (runTubes (Segment i) (J .kind i) (gap J far (Segment i)) (pieces (apart (chainOf J)) (frames J i))) [])
-        go true = runs-from (Segment i) (J .kind i) _ _ (gap J far (Segment i)) _ (segment-runs i)
+        go : (b : Bool) → Every (From (Segment i (range G i)) (G .kind i) (Linked (Frame J (Segment i (range G i))) (Near J far (Segment i (range G i)))))
+            (cond b (runTubes (Segment i (range G i)) (G .kind i) (gap J far (Segment i (range G i))) (pieces (apart (chainOf J)) (frames J (range G i)))) [])
+        go true = runs-from (Segment i (range G i)) (G .kind i) _ _ (gap J far (Segment i (range G i))) _ (segment-runs i (range G i))
         go false = tt
 
-    pub coils-from : Every (From Coils 0 (Linked (Frame J Coils) (Near J far Coils))) (coilTubes J far)
+    pub coils-from : (cov : ℕ → Bool) → Every (From Coils 0 (Linked (Frame J Coils) (Near J far Coils))) (coilTubes J cov far)
     unfolding coilTubes
-    coils-from =
+    coils-from cov =
         runs-from Coils 0 _ _ (gap J far Coils) _
-        (coil-runs (pieces (apart (chainOf J)) (chosen (loose J) (J .residues))) (runs-linked (Frame J Coils) (chosen (loose J) (J .residues)) loose-linked))
+        (coil-runs cov (pieces (apart (chainOf J)) (chosen (loose J cov) (J .residues))) (runs-linked (Frame J Coils) (chosen (loose J cov) (J .residues)) (loose-linked cov)))
 
     -- ---- what that says of each tube
 
     last-below : (l : List ℕ) → 2 ≤ length l → Consecutive l → Each (λ r. r < J .residues) l → length l ≤ J .residues
     last-below l h C B = let k : length l - 1 < length l = omega arith in omega (arith, C (length l - 1) k, B (length l - 1) k)
 
-    proper : (source : Source) (kind : ℕ) → Known J source kind → (u : Tube) → From source kind (Linked (Frame J source) (Near J far source)) u → Proper J far u
+    proper : (source : Source) (kind : ℕ) → Known G source kind → (u : Tube) → From source kind (Linked (Frame J source) (Near J far source)) u → Proper J G far u
     proper source kind k u F =
         let E = linked-each _ _ (u .residues) (F .has) in
         let N = linked-neighbours _ _ (u .residues) (F .has) in
@@ -171,15 +174,15 @@ module _ (J : Job) where
           near = λ i h. rw (F .source-is) (N i h .1);
         }
 
-    segments-proper : (n : ℕ) → n ≤ J .segments → Every (Proper J far) (joined (segmentTubes J far) n)
+    segments-proper : (n : ℕ) → n ≤ G .count → Every (Proper J G far) (joined (segmentTubes J G far) n)
     unfolding joined
     segments-proper zero h = tt
     segments-proper (suc n) h =
-        every-join _ (joined (segmentTubes J far) n) (segmentTubes J far n) (segments-proper n (omega arith))
-        (every-map _ _ (proper (Segment n) (J .kind n) (omega arith, refl)) (segmentTubes J far n) (segment-from n))
+        every-join _ (joined (segmentTubes J G far) n) (segmentTubes J G far n) (segments-proper n (omega arith))
+        (every-map _ _ (proper (Segment n (range G n)) (G .kind n) (omega arith, refl, refl)) (segmentTubes J G far n) (segment-from n))
 
-    pub tubes-proper : Every (Proper J far) (tubes J far)
+    pub tubes-proper : Every (Proper J G far) (tubes J G far)
     unfolding tubes
     tubes-proper =
-        every-join _ (joined (segmentTubes J far) (J .segments)) (coilTubes J far) (segments-proper (J .segments) (omega arith))
-        (every-map _ _ (proper Coils 0 refl) (coilTubes J far) coils-from)
+        every-join _ (joined (segmentTubes J G far) (G .count)) (coilTubes J (covered J G) far) (segments-proper (G .count) (omega arith))
+        (every-map _ _ (proper Coils 0 refl) (coilTubes J (covered J G) far) (coils-from (covered J G)))
