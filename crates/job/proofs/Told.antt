@@ -1,4 +1,4 @@
--- A refusal is told by its numbers: no two have the same number with the same values (01, 'Refusal numbers'; 02 §1, §4). Assumes nothing.
+-- A refusal is told by its numbers: no two have the same number with the same values (01, 'Refusal numbers'; 02 §1, §4, §5). Assumes nothing.
 use Prim.Native.Nat.{ℕ}
 use mathlib.Core.Bool.{false, cond}
 use Rattle.lists.proofs.Bools.{clash}
@@ -8,7 +8,7 @@ use lib.Dec.{eqb}
 use lib.ListN.{getD}
 use Rattle.job.specs.Refusals.{numberOf, refusalNumbers}
 use Rattle.job.specs.declared.Refusal.{Refusal}
-use Rattle.job.specs.declared.Refusal.the-variants.{BadLength, BadVersion, BadCounts, BadSize, BadVisibility, BadKind, BadAtom, BadCoordinate, NoScratch, TooManyVertices, NoRoom, ShortLine, BadNumber, AbsentResidue, PastLimits, NoJobRoom, Inconsistent, NoStlRoom, NotStl}
+use Rattle.job.specs.declared.Refusal.the-variants.{BadLength, BadVersion, BadCounts, BadSize, BadVisibility, BadKind, BadAtom, BadCoordinate, NoScratch, TooManyVertices, NoRoom, ShortLine, BadNumber, AbsentResidue, PastLimits, NoJobRoom, Inconsistent, NoStlRoom, NotStl, BadShares}
 
 -- the refusal of a number n that carries x, y and z
 pub named : ℕ → ℕ → ℕ → ℕ → Refusal
@@ -30,7 +30,8 @@ named n x y z =
     (cond (eqb n 15) PastLimits
     (cond (eqb n 16) (NoJobRoom x)
     (cond (eqb n 17) Inconsistent
-    (cond (eqb n 18) (NoStlRoom x) NotStl)))))))))))))))))
+    (cond (eqb n 18) (NoStlRoom x)
+    (cond (eqb n 19) NotStl BadShares))))))))))))))))))
 
 -- and of a list of numbers
 unfoldable pub of : List ℕ → Refusal
@@ -57,6 +58,7 @@ back (NoJobRoom n) = refl
 back Inconsistent = refl
 back (NoStlRoom n) = refl
 back NotStl = refl
+back BadShares = refl
 
 pub told : (r q : Refusal) → refusalNumbers r ≡ refusalNumbers q → r ≡ q
 told r q e = sym (back r) ∙ ap of e ∙ back q
@@ -82,6 +84,7 @@ not-zero (NoJobRoom n) = refl
 not-zero Inconsistent = refl
 not-zero (NoStlRoom n) = refl
 not-zero NotStl = refl
+not-zero BadShares = refl
 
 pub zero-not : (r : Refusal) → 0 ≡ numberOf r → ⊥
 zero-not r e = clash (ap (λ (n : ℕ). eqb n 0) (sym e)) (not-zero r)

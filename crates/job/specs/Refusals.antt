@@ -1,9 +1,9 @@
--- The refusals of every call: the number and the carried values of each (01, 'Refusal numbers'; 02 §1 and §4, 'Refusals').
+-- The refusals of every call: the number and the carried values of each (01, 'Refusal numbers'; 02 §1, §4 and §5, 'Refusals').
 use Prim.Native.Nat.{ℕ}
 use mathlib.Core.List.{List, [], _∷_}
 use lib.ListN.{getD}
 use Rattle.job.specs.declared.Refusal.{Refusal}
-use Rattle.job.specs.declared.Refusal.the-variants.{BadLength, BadVersion, BadCounts, BadSize, BadVisibility, BadKind, BadAtom, BadCoordinate, NoScratch, TooManyVertices, NoRoom, ShortLine, BadNumber, AbsentResidue, PastLimits, NoJobRoom, Inconsistent, NoStlRoom, NotStl}
+use Rattle.job.specs.declared.Refusal.the-variants.{BadLength, BadVersion, BadCounts, BadSize, BadVisibility, BadKind, BadAtom, BadCoordinate, NoScratch, TooManyVertices, NoRoom, ShortLine, BadNumber, AbsentResidue, PastLimits, NoJobRoom, Inconsistent, NoStlRoom, NotStl, BadShares}
 
 -- the column 'No.'
 abbrev pub numberOf : Refusal → ℕ
@@ -26,6 +26,7 @@ numberOf (NoJobRoom n) = 16
 numberOf Inconsistent = 17
 numberOf (NoStlRoom n) = 18
 numberOf NotStl = 19
+numberOf BadShares = 20
 
 -- the column 'Carries'
 abbrev pub carried : Refusal → List ℕ
@@ -48,6 +49,7 @@ carried (NoJobRoom n) = n ∷ []
 carried Inconsistent = 0 ∷ []
 carried (NoStlRoom n) = n ∷ []
 carried NotStl = 0 ∷ []
+carried BadShares = 0 ∷ []
 
 -- the first three values of a list, 0 where there is none
 abbrev pub three : List ℕ → List ℕ

@@ -11,10 +11,12 @@ ghost use Rattle.numbers.specs.Bytes.{u64At};
 ghost use Rattle.job.specs.Coordinate.{within};
 ghost use Rattle.job.specs.Refusals.{refusalNumbers};
 ghost use Rattle.protein.specs.Layout.{Whole};
-ghost use Rattle.job.specs.Check.{sizes, contents, check, stray, badVisibility, badKind, badAtom, badCoordinate};
+ghost use Rattle.protein.specs.Job.{segmentsOf};
+ghost use Rattle.job.specs.Check.{sizes, contents, check, unshared, checkShared, stray, badVisibility, badKind, badAtom, badCoordinate};
 
 // The refusals of every call in the order of their numbers, with what each carries: 01's 1 to 11, then those of 02 §1, the reader
-// of PDB files, 12 to 16, and of 02 §4, binary STL, 17 to 19. `numberOf` and `carried` of specs/Refusals set out the tables.
+// of PDB files, 12 to 16, of 02 §4, binary STL, 17 to 19, and of 02 §5, shares, 20. `numberOf` and `carried` of specs/Refusals set
+// out the tables.
 pub enum Refusal {
     BadLength,
     BadVersion(u8),
@@ -35,6 +37,7 @@ pub enum Refusal {
     Inconsistent,
     NoStlRoom(usize),
     NotStl,
+    BadShares,
 }
 
 // What the checks of a job's bytes answer: its counts, or a refusal.
@@ -67,6 +70,7 @@ pub fn refusal_numbers(r: Refusal) -> [usize; 4]
         Refusal::Inconsistent => [17, 0, 0, 0],
         Refusal::NoStlRoom(n) => [18, n, 0, 0],
         Refusal::NotStl => [19, 0, 0, 0],
+        Refusal::BadShares => [20, 0, 0, 0],
     }
 }
 
@@ -121,15 +125,13 @@ pub fn find_visibility(b: &[u8], h: Head) -> usize
     0
 }
 
-pub fn find_kind(b: &[u8], h: Head) -> usize
-    requires { ⌜ Whole (now b) h ⌝ }
-    ensures { λ r. ⌜ r ≡ first (badKind (now (b .entry)) h) (h .segments) ⌝ }
+pub fn find_kind(q: &[u8]) -> usize
+    ensures { λ r. ⌜ r ≡ first (badKind (now (q .entry))) (segmentsOf (now (q .entry)) .count) ⌝ }
 {
-    let n = h.segments as usize;
+    let n = q.len() / 9;
     let mut i = 0;
     while i < n {
-        let at = protein::segment_at(h, i);
-        if 2 < b[at] {
+        if 2 < protein::kind(q, i) {
             return i + 1;
         }
         i += 1;
@@ -219,16 +221,16 @@ pub fn find_coordinate(b: &[u8], h: Head) -> usize
     0
 }
 
-// Checks 5 to 8.
-pub fn check_contents(b: &[u8], h: Head) -> Checked
+// Checks 5 to 8, with the segment records `q`.
+pub fn check_contents(b: &[u8], h: Head, q: &[u8]) -> Checked
     requires { ⌜ Whole (now b) h ⌝ }
-    ensures { λ r. ⌜ r ≡ contents (now (b .entry)) h ⌝ }
+    ensures { λ r. ⌜ r ≡ contents (now (b .entry)) h (now (q .entry)) ⌝ }
 {
     let v = find_visibility(b, h);
     if 0 < v {
         return Checked::Refused(Refusal::BadVisibility(v - 1));
     }
-    let k = find_kind(b, h);
+    let k = find_kind(q);
     if 0 < k {
         return Checked::Refused(Refusal::BadKind(k - 1));
     }
@@ -249,6 +251,35 @@ pub fn check_job(b: &[u8]) -> Checked
     let s = check_sizes(b);
     match s {
         Checked::Refused(r) => Checked::Refused(r),
-        Checked::Fine(h) => check_contents(b, h),
+        Checked::Fine(h) => check_contents(b, h, protein::records(b, h)),
+    }
+}
+
+// Check 4 of 02 §5: whether a job has segments of its own, or `n` bytes are not whole records, or are too many of them.
+pub fn is_unshared(h: Head, n: usize) -> bool
+    ensures { λ r. ⌜ r ≡ unshared h n ⌝ }
+{
+    if h.segments != 0 {
+        return true;
+    }
+    if n % 9 != 0 {
+        return true;
+    }
+    65535 < n / 9
+}
+
+// Checks 1 to 8 of a shared job with one party's records `q`.
+pub fn check_shared(b: &[u8], q: &[u8]) -> Checked
+    ensures { λ r. ⌜ r ≡ checkShared (now (b .entry)) (now (q .entry)) ⌝ }
+{
+    let s = check_sizes(b);
+    match s {
+        Checked::Refused(r) => Checked::Refused(r),
+        Checked::Fine(h) => {
+            if is_unshared(h, q.len()) {
+                return Checked::Refused(Refusal::BadSize);
+            }
+            check_contents(b, h, q)
+        }
     }
 }

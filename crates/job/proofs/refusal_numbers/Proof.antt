@@ -8,7 +8,7 @@ refusal-numbers-spec =
     (tie.spec
     (λ c. search needs) (λ c. search needs) (λ c. search needs) (λ c. search needs) (λ c. search needs) (λ c. search needs) (λ c. search needs)
     (λ c. search needs) (λ c. search needs) (λ c. search needs) (λ c. search needs) (λ c. search needs) (λ c. search needs) (λ c. search needs)
-    (λ c. search needs) (λ c. search needs) (λ c. search needs) (λ c. search needs) (λ c. search needs) (λ c. search needs)
+    (λ c. search needs) (λ c. search needs) (λ c. search needs) (λ c. search needs) (λ c. search needs) (λ c. search needs) (λ c. search needs)
     (λ c. rw (c .enum-told .given .1))
     (λ c. rw (c .before .r .given .1))
     (λ c. rw (c .enum-told2 .given .1))
@@ -27,4 +27,5 @@ refusal-numbers-spec =
     (λ c. rw (c .before .r10 .given .1))
     (λ c. rw (c .enum-told7 .given .1))
     (λ c. rw (c .before .r11 .given .1))
-    (λ c. rw (c .enum-told8 .given .1)))
+    (λ c. rw (c .enum-told8 .given .1))
+    (λ c. rw (c .enum-told9 .given .1)))
