@@ -11,7 +11,7 @@ use lib.Seq.{length-take-le}
 use borrow.Author.Tests.{ltb-true, ltb-false}
 use Rattle.job.specs.Refusals.{numberOf, carried, refusalNumbers}
 use Rattle.job.specs.declared.Refusal.{Refusal}
-use Rattle.job.specs.declared.Refusal.the-variants.{BadLength, BadVersion, BadCounts, BadSize, BadVisibility, BadKind, BadAtom, BadCoordinate, NoScratch, TooManyVertices, NoRoom, ShortLine, BadNumber, AbsentResidue, PastLimits, NoJobRoom, Inconsistent, NoStlRoom, NotStl}
+use Rattle.job.specs.declared.Refusal.the-variants.{BadLength, BadVersion, BadCounts, BadSize, BadVisibility, BadKind, BadAtom, BadCoordinate, NoScratch, TooManyVertices, NoRoom, ShortLine, BadNumber, AbsentResidue, PastLimits, NoJobRoom, Inconsistent, NoStlRoom, NotStl, BadShares}
 use Rattle.io.specs.Counts.{Counts}
 use Rattle.io.specs.Digits.{digits, Fewest}
 use Rattle.lists.proofs.Puts.{next}
@@ -99,6 +99,7 @@ one-value (NoJobRoom n) h = sym (append-nil _)
 one-value Inconsistent h = sym (append-nil _)
 one-value (NoStlRoom n) h = sym (append-nil _)
 one-value NotStl h = sym (append-nil _)
+one-value BadShares h = sym (append-nil _)
 
 pub three-values : (r : Refusal) → numberOf r ≡ 11
     → field blankName (getD (refusalNumbers r) 1 0) ++ field blankName (getD (refusalNumbers r) 2 0) ++ field blankName (getD (refusalNumbers r) 3 0)
@@ -123,6 +124,7 @@ three-values (NoJobRoom n) h = absurd (omega (arith, h))
 three-values Inconsistent h = absurd (omega (arith, h))
 three-values (NoStlRoom n) h = absurd (omega (arith, h))
 three-values NotStl h = absurd (omega (arith, h))
+three-values BadShares h = absurd (omega (arith, h))
 
 -- a count within a list
 pub counts : (n : ℕ) (l : List ℕ) → n ≤ length l → Counts n l

@@ -116,6 +116,13 @@ fn explain_stl(r: Refusal) {
     }
 }
 
+// The refusal of shares, 20.
+fn explain_shares() {
+    say(
+        b"the two parties' shares overlap, or one leaves its buffer\nwhat to do: deal the shares anew: each within its buffer, and no place in two of them\n",
+    );
+}
+
 // What a number means and what to do, for a reader who has no list of them at hand.
 pub fn explain(r: Refusal) {
     match r {
@@ -134,6 +141,7 @@ pub fn explain(r: Refusal) {
         | Refusal::PastLimits
         | Refusal::NoJobRoom(_) => explain_file(r),
         Refusal::Inconsistent | Refusal::NoStlRoom(_) | Refusal::NotStl => explain_stl(r),
+        Refusal::BadShares => explain_shares(),
     }
 }
 
