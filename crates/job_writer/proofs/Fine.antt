@@ -11,16 +11,17 @@ use borrow.Author.Tests.{le-ltb, eq-eqb, lt-leb}
 use Rattle.numbers.specs.Bytes.{u8At, u16At, u32At, u64At}
 use Rattle.job.specs.Coordinate.{within}
 use Rattle.protein.specs.Layout.{headOf, jobSize, none}
-use Rattle.job.specs.Check.{sizes, contents, check, andThen, stray, badVisibility, badKind, badAtom, badCoordinate}
+use Rattle.protein.specs.Job.{segmentsOf}
+use Rattle.job.specs.Check.{sizes, contents, check, stray, badVisibility, badKind, badAtom, badCoordinate}
 use Rattle.protein.specs.declared.Head.{Head}
-use Rattle.job.specs.declared.Checked.{Checked}
 use Rattle.job.specs.declared.Checked.the-variants.{Fine}
+use Rattle.job.proofs.Laws.{check-contents-of}
 use Rattle.lists.proofs.Searches.{first-none}
-use Rattle.job_writer.specs.Job.{jobBytes, atomBytes}
+use Rattle.job_writer.specs.Job.{flat, segmentBytes, jobBytes, atomBytes}
 use Rattle.job_writer.specs.declared.JobAtom.{JobAtom}
 use Rattle.job_writer.specs.declared.JobSegment.{JobSegment}
-use Rattle.job_writer.proofs.Laws.{wide-atom}
-use Rattle.job_writer.proofs.Readback.{job-size, head-read, visible-read, segment-there, atom-there, segment-read, atom-read}
+use Rattle.job_writer.proofs.Laws.{wide-segment, wide-atom, length-flat}
+use Rattle.job_writer.proofs.Readback.{job-size, head-read, visible-read, records-are, segment-there, atom-there, segment-read, atom-read}
 
 -- ---- number k of a list
 pub record Nth {A : Type 0} (l : List A) (k : ℕ) : Type 0 where
@@ -49,13 +50,13 @@ sizes-fine s h₁ h₂ h₃ h₄ h₅ h₆ =
       eq-eqb (length s) (jobSize (headOf s)) h₆,
     )
 
-contents-fine : (s : List ℕ) (h : Head) → ((k : ℕ) → k < h .chains → badVisibility s h k ≡ false) → ((k : ℕ) → k < h .segments → badKind s h k ≡ false)
-    → ((k : ℕ) → k < h .atoms → badAtom s h k ≡ false) → ((k : ℕ) → k < h .atoms → badCoordinate s h k ≡ false) → contents s h ≡ Fine h
+contents-fine : (s : List ℕ) (h : Head) (q : List ℕ) → ((k : ℕ) → k < h .chains → badVisibility s h k ≡ false) → ((k : ℕ) → k < segmentsOf q .count → badKind q k ≡ false)
+    → ((k : ℕ) → k < h .atoms → badAtom s h k ≡ false) → ((k : ℕ) → k < h .atoms → badCoordinate s h k ≡ false) → contents s h q ≡ Fine h
 unfolding contents
-contents-fine s h a b c d =
+contents-fine s h q a b c d =
     rw (
       first-none (badVisibility s h) (h .chains) a,
-      first-none (badKind s h) (h .segments) b,
+      first-none (badKind q) (segmentsOf q .count) b,
       first-none (badAtom s h) (h .atoms) c,
       first-none (badCoordinate s h) (h .atoms) d,
     )
@@ -112,12 +113,13 @@ module _ (c r : ℕ) (gs : List JobSegment) (ats : List JobAtom) (hc : c ≤ 255
   unfolding badVisibility
   visible k h = le-ltb 1 (u8At job (13 + k)) (omega (arith, visible-read 1 33 atomBytes wide-atom c r gs ats k h))
 
-  kind : (k : ℕ) → k < length gs → badKind job written k ≡ false
+  kind : (k : ℕ) → k < segmentsOf (flat segmentBytes gs) .count → badKind (flat segmentBytes gs) k ≡ false
   unfolding badKind
   kind k h =
-      let n = nth gs k h in
-      let e = segment-read job (13 + c + 9 * k) (n .item) (segment-there 1 33 atomBytes wide-atom c r gs ats k (n .item) (n .tail) (n .is)) in
-      le-ltb 2 (u8At job (13 + c + 9 * k)) (omega (arith, e .kind, kinds k (n .item) (n .tail) (n .is)))
+      let q = flat segmentBytes gs in
+      let n = nth gs k (omega (arith, h, length-flat segmentBytes 9 wide-segment gs)) in
+      let e = segment-read q (9 * k) (n .item) (segment-there gs k (n .item) (n .tail) (n .is)) in
+      le-ltb 2 (u8At q (9 * k)) (omega (arith, e .kind, kinds k (n .item) (n .tail) (n .is)))
 
   atom : (k : ℕ) → k < length ats → badAtom job written k ≡ false
   unfolding badAtom
@@ -147,5 +149,6 @@ module _ (c r : ℕ) (gs : List JobSegment) (ats : List JobAtom) (hc : c ≤ 255
       rw (in-range (n .item .x) (u64At job (i + 9)) (e .x) (p .x), in-range (n .item .y) (u64At job (i + 17)) (e .y) (p .y), in-range (n .item .z) (u64At job (i + 25)) (e .z) (p .z))
 
   pub written-fine : check (jobBytes 1 33 atomBytes c r gs ats) ≡ Fine written
-  unfolding check
-  written-fine = ap (λ (x : Checked). andThen x (contents job)) sizes-are ∙ contents-fine job written visible kind atom coordinate
+  written-fine =
+      check-contents-of job written sizes-are ∙ ap (contents job written) (records-are 1 33 atomBytes wide-atom c r gs ats)
+      ∙ contents-fine job written (flat segmentBytes gs) visible kind atom coordinate

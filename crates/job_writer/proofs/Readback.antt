@@ -2,9 +2,10 @@
 use Prim.Native.Nat.{ℕ, zero, suc, _+_, _*_, _%_, _<_}
 use mathlib.Core.Path.{_≡_, refl, sym, _∙_, subst}
 use mathlib.Core.List.{List, [], _∷_, _++_}
-use native.Mathlib.Nat.{mul-suc, mul-zero}
+use native.Mathlib.Nat.{mul-suc, mul-zero, zero-add}
 use native.Mathlib.Omega.{arith}
-use lib.ListN.{length, drop, replicate, length-append, length-replicate, getD-replicate}
+use lib.ListN.{length, take, drop, replicate, length-append, length-replicate, getD-replicate}
+use lib.Seq.{take-at, drop-at, drop-drop}
 use Rattle.numbers.specs.Bytes.{u8At, u16At, u32At, u64At, u16, u32, u64}
 use Rattle.numbers.proofs.Laws.{len16, len32, len64}
 use Rattle.numbers.proofs.Readback.{Holds, holds-all, holds-moved, holds-front, holds-back, byte-back, u16-back, u32-back, u64-back}
@@ -75,6 +76,12 @@ holds-record f w wide s (y ∷ l) i zero x r e h =
 holds-record f w wide s (y ∷ l) i (suc k) x r e h =
     holds-moved s (i + w + w * k) (i + w * suc k) (f x) (omega (arith, mul-suc w k)) (holds-record f w wide s l (i + w) k x r e (holds-back s i (f y) (flat f l) h w (wide y)))
 
+-- segment k, in the records of all
+pub segment-there : (gs : List JobSegment) (k : ℕ) (g : JobSegment) (t : List JobSegment) → drop k gs ≡ g ∷ t → Holds (flat segmentBytes gs) (9 * k) (segmentBytes g)
+segment-there gs k g t e =
+    let q = flat segmentBytes gs in
+    holds-moved q (0 + 9 * k) (9 * k) (segmentBytes g) (zero-add (9 * k)) (holds-record segmentBytes 9 wide-segment q gs 0 k g t e (holds-all q))
+
 -- ---- the whole job
 module _ {A : Type 0} (version w : ℕ) (bytes : A → List ℕ) (wide : (x : A) → length (bytes x) ≡ w) (c r : ℕ) (gs : List JobSegment) (ats : List A) where
   job : List ℕ
@@ -140,10 +147,13 @@ module _ {A : Type 0} (version w : ℕ) (bytes : A → List ℕ) (wide : (x : A)
       holds-front job 13 (replicate c 1) (flat segmentBytes gs ++ flat bytes ats) holds-chains .at k (subst (λ (n : ℕ). k < n) (sym (length-replicate {A = ℕ} c 1)) h)
       ∙ getD-replicate {A = ℕ} c k 1 0 h
 
-  pub segment-there : (k : ℕ) (g : JobSegment) (t : List JobSegment) → drop k gs ≡ g ∷ t → Holds (jobBytes version w bytes c r gs ats) (13 + c + 9 * k) (segmentBytes g)
-  unfolding job
-  segment-there k g t e =
-      holds-record segmentBytes 9 wide-segment job gs (13 + c) k g t e (holds-front job (13 + c) (flat segmentBytes gs) (flat bytes ats) holds-records)
+  -- its segment records, the part of it that a reader of records is handed
+  pub records-are : take (9 * length gs) (drop (13 + c) (jobBytes version w bytes c r gs ats)) ≡ flat segmentBytes gs
+  unfolding jobBytes
+  records-are =
+      let front = drop-at (headBytes version w c r (length gs) (length ats)) (replicate c 1 ++ (flat segmentBytes gs ++ flat bytes ats)) 13 (length-head version w c r (length gs) (length ats)) in
+      let chains = drop-at (replicate c 1) (flat segmentBytes gs ++ flat bytes ats) c (length-replicate {A = ℕ} c 1) in
+      rw (← drop-drop c 13, front, chains) (take-at (flat segmentBytes gs) (flat bytes ats) (9 * length gs) (length-flat segmentBytes 9 wide-segment gs))
 
   pub atom-there : (k : ℕ) (a : A) (t : List A) → drop k ats ≡ a ∷ t → Holds (jobBytes version w bytes c r gs ats) (13 + c + 9 * length gs + w * k) (bytes a)
   unfolding job
