@@ -8,20 +8,20 @@ use native.Mathlib.Omega.{arith}
 use lib.Dec.{eqb}
 use lib.Ieee.{binary32, binary64, ofBits}
 use lib.ListN.{length, drop, length-map}
-use borrow.Author.Tests.{eq-eqb}
+use borrow.Author.Tests.{eq-eqb, lt-ltb}
 use Rattle.floats.specs.Floats.{narrowed}
 use Rattle.numbers.specs.Bytes.{u8At, u64At}
 use Rattle.numbers.proofs.Readback.{holds-moved}
-use Rattle.protein.specs.Job.{jobOf}
-use Rattle.protein.specs.Layout.{atomAt, segmentAt}
+use Rattle.protein.specs.Job.{jobOf, segmentsOf}
+use Rattle.protein.specs.Layout.{recordsOf, atomAt}
 use Rattle.protein.specs.Places.{coordinateAt, placeOf}
 use Rattle.protein.specs.declared.Head.{Head}
-use Rattle.job_writer.specs.Job.{jobBytes, atomBytes}
+use Rattle.job_writer.specs.Job.{flat, segmentBytes, jobBytes, atomBytes}
 use Rattle.job_writer.specs.declared.JobAtom.{JobAtom}
 use Rattle.job_writer.specs.declared.JobSegment.{JobSegment}
-use Rattle.job_writer.proofs.Laws.{wide-atom}
+use Rattle.job_writer.proofs.Laws.{wide-segment, wide-atom, length-flat}
 use Rattle.job_writer.proofs.Fine.{Right}
-use Rattle.job_writer.proofs.Readback.{visible-read, segment-there, atom-there, segment-read, atom-read}
+use Rattle.job_writer.proofs.Readback.{visible-read, records-are, segment-there, atom-there, segment-read, atom-read}
 use Rattle.pdb_records.specs.declared.AtomLine.{AtomLine}
 use Rattle.pdb_file.specs.Faults.{firstAtom, lastAtom, orFault, serialIn}
 use Rattle.pdb_file.specs.declared.Found.{Found}
@@ -59,18 +59,27 @@ last-fits n (a ∷ l) P = go (lastAtom n l) (eqb (a .name) n) (last-fits n l (P 
     go Nowhere true h = P .0 .serial
     go Nowhere false h = omega arith
 
+-- ---- the records of segments
+segments-said : (gs : List JobSegment) → segmentsOf (flat segmentBytes gs) .count ≡ length gs
+segments-said gs = omega (arith, length-flat segmentBytes 9 wide-segment gs)
+
+segment-said : (gs : List JobSegment) (k : ℕ) (g : JobSegment) (t : List JobSegment) → drop k gs ≡ g ∷ t → g .start < 4294967296 → g .end < 4294967296
+    → SegmentSaid (segmentsOf (flat segmentBytes gs)) k g
+segment-said gs k g t e l m =
+    let r = segment-read (flat segmentBytes gs) (9 * k) g (segment-there gs k g t e) in
+    record { kind = r .kind; start = r .start ∙ mod-eq-of-lt l; stop = r .end ∙ mod-eq-of-lt m }
+
 -- ---- the bytes of a job whose counts are h's
 module _ (h : Head) (gs : List JobSegment) (ats : List JobAtom) where
   abbrev job : List ℕ
   job = jobBytes 1 33 atomBytes (h .chains) (h .residues) gs ats
 
   visible-said : (k : ℕ) → k < h .chains → jobOf job h .visible k ≡ true
-  visible-said k l = eq-eqb (u8At job (13 + k)) 1 (visible-read 1 33 atomBytes wide-atom (h .chains) (h .residues) gs ats k l)
+  visible-said k l = rw (lt-ltb k (h .chains) l) (eq-eqb (u8At job (13 + k)) 1 (visible-read 1 33 atomBytes wide-atom (h .chains) (h .residues) gs ats k l))
 
-  segment-said : (k : ℕ) (g : JobSegment) (t : List JobSegment) → drop k gs ≡ g ∷ t → g .start < 4294967296 → g .end < 4294967296 → SegmentSaid (jobOf job h) k g
-  segment-said k g t e l m =
-      let r = segment-read job (segmentAt h k) g (segment-there 1 33 atomBytes wide-atom (h .chains) (h .residues) gs ats k g t e) in
-      record { kind = r .kind; start = r .start ∙ mod-eq-of-lt l; stop = r .end ∙ mod-eq-of-lt m }
+  -- its records are the segments' own
+  records-said : length gs ≡ h .segments → recordsOf job h ≡ flat segmentBytes gs
+  records-said n = rw (← n) (records-are 1 33 atomBytes wide-atom (h .chains) (h .residues) gs ats)
 
   narrowed-at : (i x : ℕ) → u64At job i ≡ x % 18446744073709551616 → x < 18446744073709551616 → coordinateAt job i ≡ narrow x
   unfolding coordinateAt narrow
@@ -100,15 +109,17 @@ structure-says x P e =
     let l = limited x e in
     let gs = map (toSegment (x .atoms)) (x .segments) in
     let ats = map (toAtom (x .atoms)) (x .atoms) in
+    let n = length-map (x .segments) (toSegment (x .atoms)) in
+    let q = records-said (headFor x) gs ats n in
     record {
       atoms = refl;
       residues = refl;
-      segments = refl;
+      segments = rw q (segments-said gs ∙ n);
       visible = visible-said (headFor x) gs ats;
       segment = λ k g t d.
-          segment-said (headFor x) gs ats k (toSegment (x .atoms) g) _ (map-at (toSegment (x .atoms)) (x .segments) k g t d) (first-fits (g .start) (x .atoms) P) (last-fits (g .end) (x .atoms) P);
+          rw q (segment-said gs k (toSegment (x .atoms) g) _ (map-at (toSegment (x .atoms)) (x .segments) k g t d) (first-fits (g .start) (x .atoms) P) (last-fits (g .end) (x .atoms) P));
       atom = λ k a t d.
           let m = map-at (toAtom (x .atoms)) (x .atoms) k a t d in
-          atom-said (headFor x) gs ats (length-map (x .segments) (toSegment (x .atoms))) (omega (arith, l .chains)) (omega (arith, l .residues)) k (toAtom (x .atoms) a) _ m
+          atom-said (headFor x) gs ats n (omega (arith, l .chains)) (omega (arith, l .residues)) k (toAtom (x .atoms) a) _ m
           (every-at Proper (x .atoms) k a t P d .serial) (atom-right (x .atoms) P k (toAtom (x .atoms) a) _ m);
     }

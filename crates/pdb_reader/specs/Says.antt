@@ -9,7 +9,8 @@ use lib.Ieee.{Float, binary32, binary64, ofBits}
 use Rattle.floats.specs.Floats.{narrowed}
 use Rattle.vectors.specs.Vec.{vec}
 use Rattle.vectors.specs.declared.Vec3.{Vec3}
-use Rattle.protein.specs.Job.{Job, jobOf}
+use Rattle.protein.specs.Layout.{recordsOf}
+use Rattle.protein.specs.Job.{Job, jobOf, Segments, segmentsOf}
 use Rattle.protein.specs.Places.{placeOf}
 use Rattle.protein.specs.declared.Head.{Head}
 use Rattle.job.specs.Coordinate.{within}
@@ -37,11 +38,11 @@ unfoldable pub narrow : ℕ → Float
 unfolding narrowed
 narrow bits = narrowed binary32 (ofBits binary64 bits)
 
--- segment k of the job J is g
-pub record SegmentSaid (J : Job) (k : ℕ) (g : JobSegment) : Type 0 where
-  pub kind : J .kind k ≡ g .kind
-  pub start : J .start k ≡ g .start
-  pub stop : J .stop k ≡ g .end
+-- segment k of the segments G is g
+pub record SegmentSaid (G : Segments) (k : ℕ) (g : JobSegment) : Type 0 where
+  pub kind : G .kind k ≡ g .kind
+  pub start : G .start k ≡ g .start
+  pub stop : G .stop k ≡ g .end
 
 -- atom k of the job J, which stands at p, is a
 pub record AtomSaid (J : Job) (p : Vec3) (k : ℕ) (a : JobAtom) : Type 0 where
@@ -51,18 +52,18 @@ pub record AtomSaid (J : Job) (p : Vec3) (k : ℕ) (a : JobAtom) : Type 0 where
   pub chain : J .chain k ≡ a .chain
   pub place : p ≡ vec (narrow (a .x)) (narrow (a .y)) (narrow (a .z))
 
--- THE job J, whose atoms stand where `place` says (atoms from 1), says what the structure x says: so many atoms, residues and segments; 'Every chain is
--- visible' (02 §1); and of its segment and its atom number k what the k-th line of that kind says, as `toSegment` and `toAtom` have it
-pub record JobSays (x : Structure) (J : Job) (place : ℕ → Vec3) : Type 0 where
+-- THE job J with the segments G, whose atoms stand where `place` says (atoms from 1), says what the structure x says: so many atoms, residues and segments;
+-- 'Every chain is visible' (02 §1); and of its segment and its atom number k what the k-th line of that kind says, as `toSegment` and `toAtom` have it
+pub record JobSays (x : Structure) (J : Job) (G : Segments) (place : ℕ → Vec3) : Type 0 where
   pub atoms : J .atoms ≡ length (x .atoms)
   pub residues : J .residues ≡ residuesOf (x .atoms)
-  pub segments : J .segments ≡ length (x .segments)
+  pub segments : G .count ≡ length (x .segments)
   pub visible : (c : ℕ) → c < chainsOf (x .atoms) → J .visible c ≡ true
   pub segment : (k : ℕ) (g : SegmentLine) (t : List SegmentLine)
-      → drop k (x .segments) ≡ g ∷ t → SegmentSaid J k (toSegment (x .atoms) g)
+      → drop k (x .segments) ≡ g ∷ t → SegmentSaid G k (toSegment (x .atoms) g)
   pub atom : (k : ℕ) (a : AtomLine) (t : List AtomLine)
       → drop k (x .atoms) ≡ a ∷ t → AtomSaid J (place (suc k)) k (toAtom (x .atoms) a)
 
--- the same of a job's bytes, as the builder reads them: with the counts h
+-- the same of a job's bytes, as the builder reads them: with the counts h and the records that stand in it
 abbrev pub Says : Structure → Head → List ℕ → Type 0
-Says x h b = JobSays x (jobOf b h) (placeOf b h)
+Says x h b = JobSays x (jobOf b h) (segmentsOf (recordsOf b h)) (placeOf b h)
