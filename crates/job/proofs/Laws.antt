@@ -13,9 +13,9 @@ use Rattle.numbers.specs.Bytes.{u8At, u16At, u32At}
 use Rattle.job.specs.declared.Checked.{Checked}
 use Rattle.job.specs.declared.Checked.the-variants.{Fine, Refused}
 use Rattle.protein.specs.declared.Head.{Head}
-use Rattle.protein.specs.Layout.{Whole, headOf, recordsOf, jobSize}
+use Rattle.protein.specs.Layout.{Whole, lengthField, versionOf, headOf, recordsOf, jobSize}
 use Rattle.protein.specs.Job.{segmentsOf}
-use borrow.Author.Tests.{eqb-true, ltb-false, not-false}
+use borrow.Author.Tests.{eqb-true, ltb-false, not-false, le-ltb, eq-eqb}
 use mathlib.Core.List.{List}
 use Rattle.job.specs.Check.{orFirst, sizes, contents, check, unshared, sharedSizes, checkShared}
 use Rattle.job.proofs.Accepted.{both, check-parts, shared-parts}
@@ -51,6 +51,29 @@ sizes-whole s h e =
       fewChains = rw q (ltb-false _ _ (r4 .0));
       fewResidues = rw q (ltb-false _ _ (r5 .0));
     }
+
+-- and its length field and its version are right
+pub sizes-fields : (s : List ℕ) (h : Head) → sizes s ≡ Fine h → (lengthField s ≡ length s - 4) × (versionOf s ≡ 1)
+unfolding sizes
+sizes-fields s h e =
+    let r1 = rung (ltb (length s) 13) BadLength _ h e in
+    let r2 = rung (not (eqb (u32At s 0) (length s - 4))) BadLength _ h (r1 .1) in
+    let r3 = rung (not (eqb (u8At s 4) 1)) (BadVersion (u8At s 4)) _ h (r2 .1) in
+    (eqb-true _ _ (not-false _ (r2 .0)), eqb-true _ _ (not-false _ (r3 .0)))
+
+-- the other way: what passes 1 to 4
+pub sizes-fine : (s : List ℕ) → 13 ≤ length s → lengthField s ≡ length s - 4 → versionOf s ≡ 1 → headOf s .chains ≤ 255 → headOf s .residues ≤ 16384 → length s ≡ jobSize (headOf s)
+    → sizes s ≡ Fine (headOf s)
+unfolding sizes
+sizes-fine s h₁ h₂ h₃ h₄ h₅ h₆ =
+    rw (
+      le-ltb (length s) 13 h₁,
+      eq-eqb (u32At s 0) (length s - 4) h₂,
+      eq-eqb (u8At s 4) 1 h₃,
+      le-ltb 255 (u16At s 5) h₄,
+      le-ltb 16384 (u16At s 7) h₅,
+      eq-eqb (length s) (jobSize (headOf s)) h₆,
+    )
 
 -- the last of three tests decides where the others fail
 pub or-last : {a b c x : Bool} → a ≡ false → b ≡ false → x ≡ c → x ≡ (a || (b || c))
