@@ -7,7 +7,7 @@ use native.Mathlib.Nat.{mod-eq-of-lt}
 use native.Mathlib.Omega.{arith}
 use lib.Dec.{eqb}
 use lib.ListN.{length, drop}
-use borrow.Author.Tests.{le-ltb, eq-eqb, lt-leb}
+use borrow.Author.Tests.{le-ltb, lt-leb}
 use Rattle.numbers.specs.Bytes.{u8At, u16At, u32At, u64At}
 use Rattle.job.specs.Coordinate.{within}
 use Rattle.protein.specs.Layout.{headOf, jobSize, none}
@@ -15,7 +15,7 @@ use Rattle.protein.specs.Job.{segmentsOf}
 use Rattle.job.specs.Check.{sizes, contents, check, stray, badVisibility, badKind, badAtom, badCoordinate}
 use Rattle.protein.specs.declared.Head.{Head}
 use Rattle.job.specs.declared.Checked.the-variants.{Fine}
-use Rattle.job.proofs.Laws.{check-contents-of}
+use Rattle.job.proofs.Laws.{sizes-fine, check-contents-of}
 use Rattle.lists.proofs.Searches.{first-none}
 use Rattle.job_writer.specs.Job.{flat, segmentBytes, jobBytes, atomBytes}
 use Rattle.job_writer.specs.declared.JobAtom.{JobAtom}
@@ -37,19 +37,6 @@ nth (x ∷ l) (suc k) h =
     record { item = n .item; tail = n .tail; is = n .is }
 
 -- ---- the ladder of checks, for any bytes
-sizes-fine : (s : List ℕ) → 13 ≤ length s → u32At s 0 ≡ length s - 4 → u8At s 4 ≡ 1 → u16At s 5 ≤ 255 → u16At s 7 ≤ 16384 → length s ≡ jobSize (headOf s)
-    → sizes s ≡ Fine (headOf s)
-unfolding sizes
-sizes-fine s h₁ h₂ h₃ h₄ h₅ h₆ =
-    rw (
-      le-ltb (length s) 13 h₁,
-      eq-eqb (u32At s 0) (length s - 4) h₂,
-      eq-eqb (u8At s 4) 1 h₃,
-      le-ltb 255 (u16At s 5) h₄,
-      le-ltb 16384 (u16At s 7) h₅,
-      eq-eqb (length s) (jobSize (headOf s)) h₆,
-    )
-
 contents-fine : (s : List ℕ) (h : Head) (q : List ℕ) → ((k : ℕ) → k < h .chains → badVisibility s h k ≡ false) → ((k : ℕ) → k < segmentsOf q .count → badKind q k ≡ false)
     → ((k : ℕ) → k < h .atoms → badAtom s h k ≡ false) → ((k : ℕ) → k < h .atoms → badCoordinate s h k ≡ false) → contents s h q ≡ Fine h
 unfolding contents
