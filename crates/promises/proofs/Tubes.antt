@@ -8,7 +8,8 @@ use Rattle.edges.specs.Tube.{vertexCount, triangleCount}
 use Rattle.edges.proofs.Theorems.{tube-size, vertex-count, triangle-count}
 use Rattle.boxes.specs.Box.{boxOf}
 use Rattle.skin.proofs.Laws.{length-positions-of, length-normals-of, length-tags-of}
-use Rattle.protein.specs.Job.{jobOf}
+use Rattle.protein.specs.Layout.{recordsOf}
+use Rattle.protein.specs.Job.{Segments, jobOf, segmentsOf}
 use Rattle.protein.specs.Places.{farBy}
 use Rattle.protein.specs.Protein.{Protein, proteinOf}
 use Rattle.protein.specs.declared.Head.{Head}
@@ -17,27 +18,31 @@ use Rattle.tubes.specs.List.{tubeList}
 use Rattle.mesh.specs.Mesh.{sizeOf, alphasOf, positionsBy, normalsBy, boxBy, tubePositions, tubeNormals, tubeTags, tubeTriangles, tubeWords, tubeBox, vertexSum, triangleSum}
 use Rattle.tube_theorems.specs.Listing.{Every}
 use Rattle.tube_theorems.proofs.Tubes.{every-map, tubes-proper}
-use Rattle.promises.specs.Calls.{jobTubes}
+use Rattle.promises.specs.Calls.{tubesWith, jobTubes}
 
 -- ---- every tube of a list
 
 abbrev pub AllLong : List Tube → Type 0
 AllLong us = Every (λ u. 2 ≤ sizeOf u) us
 
-pub list-long : (P : Protein) → AllLong (tubeList P)
+pub list-long : (P : Protein) (G : Segments) → AllLong (tubeList P G)
 unfolding tubeList
-list-long P = every-map _ _ (λ u p. p .two) (tubes (P .job) (farBy (P .place))) (tubes-proper (P .job) (farBy (P .place)))
+list-long P G = every-map _ _ (λ u p. p .two) (tubes (P .job) G (farBy (P .place))) (tubes-proper (P .job) G (farBy (P .place)))
 
--- the same of a job's bytes
+-- the same of a job's bytes with some records
+pub long-with : (s : List ℕ) (h : Head) (q : List ℕ) → AllLong (tubesWith s h q)
+unfolding tubesWith
+long-with s h q = list-long (proteinOf s h) (segmentsOf q)
+
+-- and with its own
 pub list-long-of : (s : List ℕ) (h : Head) → AllLong (jobTubes s h)
-unfolding jobTubes
-list-long-of s h = list-long (proteinOf s h)
+list-long-of s h = long-with s h (recordsOf s h)
 
 pub each-most : (s : List ℕ) (h : Head) → h .residues ≤ 16384 → Every (λ u. sizeOf u ≤ 16384) (jobTubes s h)
-unfolding jobTubes tubeList
+unfolding tubesWith tubeList
 each-most s h l =
-    every-map _ _ (λ u p. let m : sizeOf u ≤ h .residues = p .most in omega (arith, m)) (tubes (jobOf s h) (farBy (proteinOf s h .place)))
-    (tubes-proper (jobOf s h) (farBy (proteinOf s h .place)))
+    every-map _ _ (λ u p. let m : sizeOf u ≤ h .residues = p .most in omega (arith, m)) (tubes (jobOf s h) (segmentsOf (recordsOf s h)) (farBy (proteinOf s h .place)))
+    (tubes-proper (jobOf s h) (segmentsOf (recordsOf s h)) (farBy (proteinOf s h .place)))
 
 -- K and T are bounded by V
 pub long-sums : (us : List Tube) → AllLong us → (length us ≤ vertexSum us) × (triangleSum us ≤ 2 * vertexSum us)

@@ -15,6 +15,8 @@ use Rattle.job.specs.declared.Refusal.{Refusal}
 use Rattle.job.specs.declared.Refusal.the-variants.{NoScratch, TooManyVertices, NoRoom}
 use Rattle.tubes.specs.Tubes.{Tube}
 use Rattle.tubes.specs.List.{tubeList}
+use Rattle.protein.specs.Layout.{recordsOf}
+use Rattle.protein.specs.Job.{segmentsOf}
 use Rattle.protein.specs.Protein.{Protein, proteinOf}
 use Rattle.mesh.specs.Mesh.{firstOf, sizeOf, vertexSum, triangleSum, meshPositions, meshNormals, meshTags, meshTriangles, meshWords, meshBoxes}
 use Rattle.edges.specs.Tube.{vertexCount, triangleCount}
@@ -29,9 +31,13 @@ use Rattle.promises.specs.declared.Planned.the-variants.{Plan, NoPlan}
 
 -- ---- a job's tubes, and their counts
 
--- 01's list of the tubes of an accepted job
-unfoldable pub jobTubes : List ℕ → Head → List Tube
-jobTubes s h = tubeList (proteinOf s h)
+-- 01's list of the tubes of an accepted job, with the segment records q
+unfoldable pub tubesWith : List ℕ → Head → List ℕ → List Tube
+tubesWith s h q = tubeList (proteinOf s h) (segmentsOf q)
+
+-- and with the job's own
+abbrev pub jobTubes : List ℕ → Head → List Tube
+jobTubes s h = tubesWith s h (recordsOf s h)
 
 -- 'For V vertices, T triangles, K tubes'
 abbrev pub countsOf : List Tube → Counts
