@@ -1,0 +1,4 @@
+pub mod Agree
+pub mod Parts
+pub mod Joined
+pub mod Cases
