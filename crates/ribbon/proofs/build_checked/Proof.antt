@@ -32,7 +32,7 @@ clear-scratch-requires : tie.Need-clear-scratch-requires
 clear-scratch-requires c κs =
     let args = c .before .before .before .before .before .before .before .before .before .before .before .before .before .before .before .before .before .before .before .before .before .args in
     let q : shortScratch (args .h) (length (args .words .now)) (length (args .floats .now)) ≡ false = (sym (c .before .before .before .before .before .before .before .before .before .before .is-short .ensures) ∙ c .before .before .before .before .before .before .before .before .before .if1 .left) in
-    (c .before .before .before .before .before .before .before .before .before .before .before .before .before .before .before .before .before .before .before .before .before .pre .0 .fewResidues, omega (arith, long-words (args .h) _ _ q, c .before .before .before .before .before .before .count-all .kept .1 .1 .1 .0), long-floats (args .h) _ _ q)
+    (c .before .before .before .before .before .before .before .before .before .before .before .before .before .before .before .before .before .before .before .before .before .pre .0 .fewResidues, omega (arith, long-words (args .h) _ _ q, c .before .before .before .before .before .before .count-all .kept .1 .1 .1 .1 .0), long-floats (args .h) _ _ q)
 
 returns-2 : tie.Need-returns-2
 returns-2 c =
@@ -45,7 +45,7 @@ clear-scratch-requires-2 : tie.Need-clear-scratch-requires-2
 clear-scratch-requires-2 c κs =
     let args = c .before .before .before .before .before .before .before .before .before .before .before .before .before .before .before .before .before .before .before .before .before .before .before .before .args in
     let q : shortScratch (args .h) (length (args .words .now)) (length (args .floats .now)) ≡ false = (sym (c .before .before .before .before .before .before .before .before .before .before .before .before .before .is-short .ensures) ∙ c .before .before .before .before .before .before .before .before .before .before .before .before .if1 .left) in
-    (c .before .before .before .before .before .before .before .before .before .before .before .before .before .before .before .before .before .before .before .before .before .before .before .before .pre .0 .fewResidues, omega (arith, long-words (args .h) _ _ q, c .before .before .before .before .before .before .before .before .before .count-all .kept .1 .1 .1 .0), long-floats (args .h) _ _ q)
+    (c .before .before .before .before .before .before .before .before .before .before .before .before .before .before .before .before .before .before .before .before .before .before .before .before .pre .0 .fewResidues, omega (arith, long-words (args .h) _ _ q, c .before .before .before .before .before .before .before .before .before .count-all .kept .1 .1 .1 .1 .0), long-floats (args .h) _ _ q)
 
 returns-3 : tie.Need-returns-3
 returns-3 c =
@@ -59,7 +59,7 @@ write-all-requires c κs =
     let args = c .before .before .before .before .before .before .before .before .before .before .before .before .before .before .before .before .before .before .before .before .before .before .before .before .before .before .before .before .before .before .before .args in
     let q : shortScratch (args .h) (length (args .words .now)) (length (args .floats .now)) ≡ false = (sym (c .before .before .before .before .before .before .before .before .before .before .before .before .before .before .before .before .before .before .before .before .is-short .ensures) ∙ c .before .before .before .before .before .before .before .before .before .before .before .before .before .before .before .before .before .before .before .if1 .left) in
     let n = (start-counted (args .b .now) (args .h) (args .q .now) 0 _ (c .before .before .before .before .before .before .before .before .before .before .before .before .before .before .before .before .before .before .before-all .ensures) _ (c .before .before .before .before .before .before .before .before .before .before .before .before .before .before .before .before .count-all .ensures .0)) in (
-      (c .before .before .before .before .before .before .before .before .before .before .before .before .before .before .before .before .before .before .before .before .before .before .before .before .before .before .before .before .before .before .before .pre .0, omega (arith, long-words (args .h) _ _ q, c .before .before .before .before .before .before .before .before .before .before .before .before .before .before .before .before .count-all .kept .1 .1 .1 .0), omega (arith, long-floats (args .h) _ _ q), c .before .before .before .before .before .before .before .before .before .before .before .before .before .before .before .before .before .before .before .before .before .before .before .before .before .before .before .before .before .before .before .pre .1, start-small _ 0 (c .before .before .before .before .before .before .before .before .before-all2 .ensures), c .before .before .before .before .before .before .before .before .before .before .before .before .before .before .before .before .before .before .before .before .before .before .before .before .before .before .before .before .before .before .before .pre .2),
+      (c .before .before .before .before .before .before .before .before .before .before .before .before .before .before .before .before .before .before .before .before .before .before .before .before .before .before .before .before .before .before .before .pre .0, omega (arith, long-words (args .h) _ _ q, c .before .before .before .before .before .before .before .before .before .before .before .before .before .before .before .before .count-all .kept .1 .1 .1 .1 .0), omega (arith, long-floats (args .h) _ _ q), c .before .before .before .before .before .before .before .before .before .before .before .before .before .before .before .before .before .before .before .before .before .before .before .before .before .before .before .before .before .before .before .pre .1, start-small _ 0 (c .before .before .before .before .before .before .before .before .before-all2 .ensures), c .before .before .before .before .before .before .before .before .before .before .before .before .before .before .before .before .before .before .before .before .before .before .before .before .before .before .before .before .before .before .before .pre .2),
       start-ready (args .b .now) (args .h) (args .q .now) 0 _ (c .before .before .before .before .before .before .before .before .before-all2 .ensures) _ (outs (args .positions .now) (args .normals .now) (args .tags .now) (args .triangles .now) (args .records .now) (args .boxes .now)) n (record { room = room-for (c .before .before .before .before .before .before .before .before .before .before .before .before .before .before .before .before .count-all .result) (outs (args .positions .now) (args .normals .now) (args .tags .now) (args .triangles .now) (args .records .now) (args .boxes .now)) _ _ (c .before .before .before .before .before .before .before .before .before .before .is-tight .ensures) (c .before .before .before .before .before .before .before .before .before .before .before .counts-of .ensures) (c .before .before .before .before .before .before .before .before .before .if3 .left); few = c .before .before .before .before .before .before .before .before .before .before .before .before .if2 .left }),
     )
 
@@ -67,10 +67,10 @@ clear-scratch-requires-3 : tie.Need-clear-scratch-requires-3
 clear-scratch-requires-3 c κs =
     let args = c .before .before .before .before .before .before .before .before .before .before .before .before .before .before .before .before .before .before .before .before .before .before .before .before .before .before .before .before .before .before .before .before .before .before .before .before .before .before .before .before .before .before .before .before .before .before .before .before .before .before .args in
     let q : shortScratch (args .h) (length (args .words .now)) (length (args .floats .now)) ≡ false = (sym (c .before .before .before .before .before .before .before .before .before .before .before .before .before .before .before .before .before .before .before .before .before .before .before .before .before .before .before .before .before .before .before .before .before .before .before .before .before .before .before .is-short .ensures) ∙ c .before .before .before .before .before .before .before .before .before .before .before .before .before .before .before .before .before .before .before .before .before .before .before .before .before .before .before .before .before .before .before .before .before .before .before .before .before .before .if1 .left) in
-    (c .before .before .before .before .before .before .before .before .before .before .before .before .before .before .before .before .before .before .before .before .before .before .before .before .before .before .before .before .before .before .before .before .before .before .before .before .before .before .before .before .before .before .before .before .before .before .before .before .before .before .pre .0 .fewResidues, omega (arith, long-words (args .h) _ _ q, c .before .before .before .before .before .before .before .before .before .before .before .before .before .before .before .before .before .before .before .before .before .before .before .before .before .before .before .before .before .before .before .before .before .before .before .count-all .kept .1 .1 .1 .0, c .before .before .before .before .before .before .before .before .before .before .before .before .before .before .before .before .before .before .write-all .kept .1 .1 .1 .0), omega (arith, long-floats (args .h) _ _ q, c .before .before .before .before .before .before .before .before .before .before .before .before .before .before .before .before .before .before .write-all .kept .1 .1 .1 .1 .0))
+    (c .before .before .before .before .before .before .before .before .before .before .before .before .before .before .before .before .before .before .before .before .before .before .before .before .before .before .before .before .before .before .before .before .before .before .before .before .before .before .before .before .before .before .before .before .before .before .before .before .before .before .pre .0 .fewResidues, omega (arith, long-words (args .h) _ _ q, c .before .before .before .before .before .before .before .before .before .before .before .before .before .before .before .before .before .before .before .before .before .before .before .before .before .before .before .before .before .before .before .before .before .before .before .count-all .kept .1 .1 .1 .1 .0, c .before .before .before .before .before .before .before .before .before .before .before .before .before .before .before .before .before .before .write-all .kept .1 .1 .1 .1 .0), omega (arith, long-floats (args .h) _ _ q, c .before .before .before .before .before .before .before .before .before .before .before .before .before .before .before .before .before .before .write-all .kept .1 .1 .1 .1 .1 .0))
 
 same-length-11 : tie.Need-same-length-11
-same-length-11 c = c .before .before .before .before .before .clear-scratch3 .kept .1 .0 ∙ c .before .before .before .before .before .before .before .before .before .before .before .before .before .before .before .before .before .before .before .before .before .before .before .before .write-all .kept .1 .1 .1 .0 ∙ c .before .before .before .before .before .before .before .before .before .before .before .before .before .before .before .before .before .before .before .before .before .before .before .before .before .before .before .before .before .before .before .before .before .before .before .before .before .before .before .before .before .count-all .kept .1 .1 .1 .0
+same-length-11 c = c .before .before .before .before .before .clear-scratch3 .kept .1 .0 ∙ c .before .before .before .before .before .before .before .before .before .before .before .before .before .before .before .before .before .before .before .before .before .before .before .before .write-all .kept .1 .1 .1 .1 .0 ∙ c .before .before .before .before .before .before .before .before .before .before .before .before .before .before .before .before .before .before .before .before .before .before .before .before .before .before .before .before .before .before .before .before .before .before .before .before .before .before .before .before .before .count-all .kept .1 .1 .1 .1 .0
 
 returns-4 : tie.Need-returns-4
 returns-4 c =

@@ -30,7 +30,7 @@ clear-scratch-requires : tie.Need-clear-scratch-requires
 clear-scratch-requires c κs =
     let args = c .before .before .before .before .before .before .before .before .before .before .before .before .before .args in
     let q : shortScratch (args .h) (length (args .words .now)) (length (args .floats .now)) ≡ false = (sym (c .before .before .before .before .before .before .before .before .is-short .ensures) ∙ c .before .before .before .before .before .before .before .if1 .left) in
-    (c .before .before .before .before .before .before .before .before .before .before .before .before .before .pre .0 .fewResidues, omega (arith, long-words (args .h) _ _ q, c .before .before .before .before .count-all .kept .1 .1 .1 .0), long-floats (args .h) _ _ q)
+    (c .before .before .before .before .before .before .before .before .before .before .before .before .before .pre .0 .fewResidues, omega (arith, long-words (args .h) _ _ q, c .before .before .before .before .count-all .kept .1 .1 .1 .1 .0), long-floats (args .h) _ _ q)
 
 returns-2 : tie.Need-returns-2
 returns-2 c =
