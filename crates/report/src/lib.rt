@@ -31,16 +31,15 @@ fn count_same(a: usize, b: usize) -> usize
     0
 }
 
-// How many of the job's segments are of a kind: 1 a helix, 2 a strand of a sheet.
-fn count_kind(job: &[u8], h: Head, kind: usize) -> usize
-    requires { ⌜ Whole (now job) h ⌝ }
-    ensures { λ r. ⌜ r ≤ h .segments ⌝ }
+// How many of the segment records are of a kind: 1 a helix, 2 a strand of a sheet.
+fn count_kind(records: &[u8], kind: usize) -> usize
+    ensures { λ r. ⌜ r ≤ length (now (records .entry)) ⌝ }
 {
-    let segments = h.segments as usize;
+    let segments = records.len() / 9;
     let mut i = 0;
     let mut n = 0;
     while i < segments {
-        n += count_same(protein::kind(job, h, i), kind);
+        n += count_same(protein::kind(records, i), kind);
         i += 1;
     }
     n
@@ -53,8 +52,9 @@ pub fn tell_read(job: &[u8], h: Head)
     say_number(b"read: chains ", h.chains as usize);
     say_number(b" residues ", h.residues as usize);
     say_number(b" atoms ", h.atoms as usize);
-    say_number(b" helices ", count_kind(job, h, 1));
-    say_number(b" strands ", count_kind(job, h, 2));
+    let records = protein::records(job, h);
+    say_number(b" helices ", count_kind(records, 1));
+    say_number(b" strands ", count_kind(records, 2));
     say(b"\n");
 }
 

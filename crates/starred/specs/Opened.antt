@@ -44,7 +44,7 @@ unfoldable pub opensTubes : ℕ
 unfolding
     opensFloats vertices triangles mesh.vertexSum mesh.triangleSum check sizes contents first last badVisibility badKind badAtom badCoordinate stray within
     u16At u32At u64At gives wants chainOf inside chosen pieces apart placeOf coordinateAt farBy tubeList list.any list.shown list.coilAlpha
-    list.segmentAlpha list.alphaOf list.frames list.counts list.covered list.gap list.tubeOf list.tubesOf list.runTubes list.segmentTubes list.joined
+    list.segmentAlpha list.alphaOf list.frames list.counts list.covered list.gap list.tubeOf list.tubesOf list.runTubes list.segmentTube list.joined
     list.loose list.joins list.extended list.coilTubes list.tubes
 opensTubes = 0
 

@@ -32,7 +32,7 @@ use Rattle.tubes.specs.declared.Source.the-variants.{Coils, Segment}
 use Rattle.mesh.specs.Mesh.{boxBy, tubeBox, meshPositions, meshNormals, meshBoxes}
 use Rattle.buffers.specs.Outs.{sizes, tight}
 use Rattle.room.specs.Room.{Lent, shortScratch, tooMany}
-use Rattle.promises.specs.Calls.{jobTubes, wordsAt, buildChecks, buildAnswer, planChecks, planAnswer}
+use Rattle.promises.specs.Calls.{tubesWith, jobTubes, wordsAt, buildChecks, buildAnswer, planChecks, planAnswer}
 use Rattle.promises.specs.declared.Built.{Built}
 use Rattle.promises.specs.declared.Built.the-variants.{Mesh, NoMesh}
 use Rattle.promises.specs.declared.Planned.{Planned}
@@ -53,16 +53,17 @@ ifFine (Refused r) t = false
 
 -- ---- its tubes
 
--- the tubes of 01's sentences: 'helix (2,3), coils (0,1,2), (3,4,5)'. The helix is the job's first segment
+-- the tubes of 01's sentences: 'helix (2,3), coils (0,1,2), (3,4,5)'. The helix is the job's first segment; the serials
+-- that a tube's source has beside its number are not compared
 abbrev pub helix : List ℕ → Tube
-helix residues = record { source = Segment 0; kind = 1; residues = residues }
+helix residues = record { source = Segment 0 (record { start = 0; stop = 0 }); kind = 1; residues = residues }
 
 abbrev pub coil : List ℕ → Tube
 coil residues = record { source = Coils; kind = 0; residues = residues }
 
 abbrev sourceNumber : Source → ℕ
 sourceNumber Coils = 0
-sourceNumber (Segment i) = suc i
+sourceNumber (Segment i g) = suc i
 
 abbrev sameTube : Tube → Tube → Bool
 sameTube u v = eqb (sourceNumber (u .source)) (sourceNumber (v .source)) && (eqb (u .kind) (v .kind) && sameList (u .residues) (v .residues))
@@ -77,7 +78,7 @@ sameTubes (u ∷ us) (v ∷ vs) = sameTube u v && sameTubes us vs
 
 -- 'helix (2,3), coils (0,1,2), (3,4,5)': the job passes the checks, and these are its tubes
 unfoldable pub tubesAre : List ℕ → List Tube → Bool
-unfolding sameTubes jobTubes opensTubes
+unfolding sameTubes tubesWith opensTubes
 tubesAre s us = ifFine (check s) (λ h. sameTubes (jobTubes s h) us)
 
 -- ---- the answers of build and plan. Scratch is lent for r residues
@@ -96,12 +97,12 @@ isNoMesh (NoMesh r) n l = eqb n (numberOf r) && sameList (carried r) l
 
 -- '350 succeeds': with this room build makes a mesh of these K, V and T
 unfoldable pub builds : List ℕ → Lent → List ℕ → Bool
-unfolding sameList buildAnswer buildChecks shortScratch tooMany tight jobTubes opensTubes
+unfolding sameList buildAnswer buildChecks shortScratch tooMany tight tubesWith opensTubes
 builds s room l = isMesh (buildAnswer s room) l
 
 -- 'Vertex room 349 gives 11', 'the next f64 above gives 8': with this room build refuses with number n, and carries l
 unfoldable pub refuses : List ℕ → Lent → ℕ → List ℕ → Bool
-unfolding sameList buildAnswer buildChecks shortScratch tooMany tight jobTubes opensTubes
+unfolding sameList buildAnswer buildChecks shortScratch tooMany tight tubesWith opensTubes
 refuses s room n l = isNoMesh (buildAnswer s room) n l
 
 abbrev hasTotals : Planned → List ℕ → Bool
@@ -118,17 +119,17 @@ isNoPlan (NoPlan r) n l = eqb n (numberOf r) && sameList (carried r) l
 
 -- 'K, V, T all 0', 'V 350, T 688': plan answers these K, V and T
 unfoldable pub totalsAre : List ℕ → ℕ → List ℕ → Bool
-unfolding sameList planAnswer planChecks wordsAt shortScratch tooMany jobTubes opensTubes
+unfolding sameList planAnswer planChecks wordsAt shortScratch tooMany tubesWith opensTubes
 totalsAre s r l = hasTotals (planAnswer s 0 (8 * r) (32 * r)) l
 
 -- 'tube 0 kind 0 residue 0 length 2 vertex 0 triangle 0': plan answers these five words of tube k
 unfoldable pub wordsAre : List ℕ → ℕ → ℕ → List ℕ → Bool
-unfolding sameList planAnswer planChecks wordsAt shortScratch tooMany jobTubes opensTubes
+unfolding sameList planAnswer planChecks wordsAt shortScratch tooMany tubesWith opensTubes
 wordsAre s r k five = hasWords (planAnswer s k (8 * r) (32 * r)) five
 
 -- 'more gives 9': plan refuses with number n, and carries l
 unfoldable pub refusesPlan : List ℕ → ℕ → ℕ → List ℕ → Bool
-unfolding sameList planAnswer planChecks wordsAt shortScratch tooMany jobTubes opensTubes
+unfolding sameList planAnswer planChecks wordsAt shortScratch tooMany tubesWith opensTubes
 refusesPlan s r n l = isNoPlan (planAnswer s 0 (8 * r) (32 * r)) n l
 
 -- ---- a tube of n residues
@@ -169,7 +170,7 @@ firstIn P us z w = isAt (vecAt (meshPositions P us) 0) 0 0 z && isAt (vecAt (mes
 
 -- 'The mesh of the job above has its first vertex at (0,0,-0.25) with normal (0,0,-1)': at (0,0,z) with normal (0,0,w)
 unfoldable pub firstVertexIs : List ℕ → ℕ → ℕ → Bool
-unfolding jobTubes opensMesh
+unfolding tubesWith opensMesh
 firstVertexIs s z w = ifFine (check s) (λ h. firstIn (proteinOf s h) (jobTubes s h) z w)
 
 -- ---- boxes
@@ -181,7 +182,7 @@ boxIs l six = sameList (map (toBits binary32) (boxOf (map (ofBits binary32) l)))
 
 -- the boxes of a job's tubes, one after the other
 unfoldable pub boxesAre : List ℕ → List ℕ → Bool
-unfolding sameList along foremost foremostOf boxOf boxBy tubeBox meshBoxes jobTubes opensMesh
+unfolding sameList along foremost foremostOf boxOf boxBy tubeBox meshBoxes tubesWith opensMesh
 boxesAre s l = ifFine (check s) (λ h. sameList (map (toBits binary32) (meshBoxes (proteinOf s h) (jobTubes s h))) l)
 
 -- ---- smoothing

@@ -11,18 +11,19 @@ use lib.Seq.{getD-take, getD-drop}
 use Rattle.edges.specs.Sound.{CornersIn}
 use Rattle.edges.specs.Tube.{vertices, triangles}
 use Rattle.edges.proofs.Theorems.{vertex-count, triangle-count}
-use Rattle.protein.specs.Layout.{headOf}
+use Rattle.protein.specs.Layout.{headOf, recordsOf}
+use Rattle.protein.specs.Job.{segmentsOf}
 use Rattle.protein.specs.Places.{farBy}
-use Rattle.protein.specs.Protein.{proteinOf}
 use Rattle.tubes.specs.Tubes.{Tube}
 use Rattle.tubes.specs.List.{tubeList}
 use Rattle.mesh.specs.Mesh.{sizeOf, tubeWords, vertexSum, triangleSum, meshPositions, meshNormals, meshTags, meshTriangles, meshWords, meshBoxes}
 use Rattle.tube_theorems.proofs.Theorems.{tube-kind}
+use Rattle.job.proofs.Accepted.{kind-few}
 use Rattle.buffers.specs.declared.Counts.{Counts}
 use Rattle.buffers.specs.Outs.{Outs, Room}
 use Rattle.room.specs.Room.{Buffers}
 use Rattle.promises.specs.declared.Built.the-variants.{Mesh}
-use Rattle.promises.specs.Calls.{jobTubes, Builds}
+use Rattle.promises.specs.Calls.{tubesWith, Builds}
 use Rattle.promises.specs.Meshes.{proteinIn, tubesIn, TubeAt, TubeStands, verticesOf, trianglesOf}
 use Rattle.promises.proofs.Tubes.{list-long-of}
 use Rattle.promises.proofs.Meshes.{length-mesh-positions, length-mesh-normals, length-mesh-tags, length-mesh-triangles, length-mesh-words, length-mesh-boxes}
@@ -57,8 +58,9 @@ module _ {s : List ℕ} {b b' : Buffers} {c : Counts} (B : Builds s b (Mesh c) b
   triangles-before i = triangleSum (take i us)
 
   kind-of : (k : ℕ) (u : Tube) → TubeAt us k u → u .kind ≤ 2
-  unfolding jobTubes tubeList
-  kind-of k u at = tube-kind s (headOf s) (accepted B .0 .passes) (farBy (proteinOf s (headOf s) .place)) u (mem-at us k u at)
+  unfolding tubesWith tubeList
+  kind-of k u at =
+      tube-kind (proteinIn s .job) (segmentsOf (recordsOf s (headOf s))) (farBy (proteinIn s .place)) (kind-few s (headOf s) (accepted B .0 .passes)) u (mem-at us k u at)
 
   -- ---- the words of tube k
   module _ (k : ℕ) (u : Tube) (at : TubeAt us k u) where
