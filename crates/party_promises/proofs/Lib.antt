@@ -1,2 +1,3 @@
 pub mod Sharing
 pub mod AsJob
+pub mod Kept
