@@ -156,9 +156,9 @@ module _ (s q : List ℕ) (h : Head) (e : checkShared s q ≡ Fine h) where
         (scratch-is ∙ sym (past-same (b .scratch)))
 
   -- ---- plan
-  plan-passed : (t words floats : ℕ) → recordsAnswer s q t words floats ≡ planChecks h (tubesWith s h q) t words floats
+  pub records-passed : (t words floats : ℕ) → recordsAnswer s q t words floats ≡ planChecks h (tubesWith s h q) t words floats
   unfolding recordsAnswer
-  plan-passed t words floats = rw e
+  records-passed t words floats = rw e
 
   plan-past : (c : Scratch) → recordsScratch s q c ≡ scratchPast h c
   unfolding recordsScratch
@@ -167,7 +167,7 @@ module _ (s q : List ℕ) (h : Head) (e : checkShared s q ≡ Fine h) where
   pub passed-plan-as-job : AllBytes s → (t : ℕ) (c c' : Scratch) (r : Planned) → PlansRecords s q t c r c' → Plans J t c r c'
   passed-plan-as-job bytes t c c' r P =
       plans-passed J h' (joined-fine s q h sized (few-atoms s q h sized bytes) e) t c c' r
-      (planned-told r _ (P .answer) ∙ plan-passed t _ _ ∙ ap (λ (vs : List Tube). planChecks h vs t (length (c .words)) (length (c .floats))) (sym tubes-same)
+      (planned-told r _ (P .answer) ∙ records-passed t _ _ ∙ ap (λ (vs : List Tube). planChecks h vs t (length (c .words)) (length (c .floats))) (sym tubes-same)
       ∙ sym (plans-same (jobTubes J h') t (length (c .words)) (length (c .floats))))
       (P .scratch ∙ plan-past c ∙ sym (past-same c))
 

@@ -23,7 +23,7 @@ use Rattle.promises.specs.declared.Planned.the-variants.{NoPlan}
 use Rattle.promises.specs.Calls.{tubesWith, buildChecks, outsBy, planChecks}
 use Rattle.party_promises.specs.Calls.{shareLent, shareChecks, shareAnswer, sharedBy, shareOuts, shareScratch, recordsAnswer, recordsScratch, BuildsShare, PlansRecords}
 use Rattle.party_promises.specs.Parties.{GoodShares, inShare}
-use Rattle.party_promises.proofs.AsJob.{answer-refused, outs-left, scratch-left, answer-passed, outs-passed, scratch-passed, plan-refused, plan-left}
+use Rattle.party_promises.proofs.AsJob.{answer-refused, outs-left, scratch-left, answer-passed, outs-passed, scratch-passed, plan-refused, plan-left, records-passed}
 
 pub share-refused : (s q : List ℕ) (m k : Shares) (b : Buffers) (r : Refusal) → checkShared s q ≡ Refused r → BuildsShare s q m k b (NoMesh r) b
 share-refused s q m k b r e =
@@ -81,17 +81,13 @@ records-refused s q t c r e =
     record { answer = cc; scratch = cc }
 
 module _ (s q : List ℕ) (h : Head) (e : checkShared s q ≡ Fine h) where
-  answer-is : (t words floats : ℕ) → recordsAnswer s q t words floats ≡ planChecks h (tubesWith s h q) t words floats
-  unfolding recordsAnswer
-  answer-is t words floats = rw e
-
   scratch-is : (c : Scratch) → recordsScratch s q c ≡ scratchPast h c
   unfolding recordsScratch
   scratch-is c = rw e
 
-  pub records-passed : (t : ℕ) (c c' : Scratch) (r : Planned) → r ≡ planChecks h (tubesWith s h q) t (length (c .words)) (length (c .floats)) → c' ≡ scratchPast h c
+  pub records-kept : (t : ℕ) (c c' : Scratch) (r : Planned) → r ≡ planChecks h (tubesWith s h q) t (length (c .words)) (length (c .floats)) → c' ≡ scratchPast h c
       → PlansRecords s q t c r c'
-  records-passed t c c' r x f =
-      let a : r ≡ recordsAnswer s q t (length (c .words)) (length (c .floats)) = x ∙ sym (answer-is t (length (c .words)) (length (c .floats))) in
+  records-kept t c c' r x f =
+      let a : r ≡ recordsAnswer s q t (length (c .words)) (length (c .floats)) = x ∙ sym (records-passed s q h e t (length (c .words)) (length (c .floats))) in
       let d : c' ≡ recordsScratch s q c = f ∙ sym (scratch-is c) in
       record { answer = cc; scratch = cc }

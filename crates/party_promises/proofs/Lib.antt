@@ -1,3 +1,5 @@
 pub mod Sharing
 pub mod AsJob
 pub mod Kept
+pub mod Answers
+pub mod Demands

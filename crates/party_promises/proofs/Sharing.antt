@@ -1,7 +1,7 @@
 -- What a call of a party does to the buffers: nothing, or its own share alone; and calls of one party after the other. Assumes nothing.
 use Prim.Native.Nat.{ℕ, _+_, _≤_}
 use mathlib.Core.Bool.{Bool, true, false, cond}
-use mathlib.Core.List.{List, [], _∷_}
+use mathlib.Core.List.{List}
 use mathlib.Core.Logic.{_⊎_, inl, inr, ⊎-elim}
 use mathlib.Core.Path.{_≡_, refl, sym, _∙_, ap, subst}
 use lib.ListN.{length, getD}
@@ -25,7 +25,7 @@ use Rattle.promises.specs.declared.Built.the-variants.{Mesh, NoMesh}
 use Rattle.promises.specs.Calls.{byCheck, tubesWith, buildChecks, filled}
 use Rattle.promises.proofs.Told.{built-told}
 use Rattle.party_promises.specs.Calls.{afterShared, shareLent, shareChecks, shareAnswer, sharedBy, shareOuts, shareScratch, BuildsShare}
-use Rattle.party_promises.specs.Parties.{GoodShares, SameOutside, OutsideOf, Outside, Call, at, Called}
+use Rattle.party_promises.specs.Parties.{GoodShares, SameOutside, OutsideOf, Outside, at, Called, none, then}
 
 -- what a promise says of an answer's numbers it says of the answer
 pub answer-is : {s q : List ℕ} {m k : Shares} {b b' : Buffers} {r : Built} → BuildsShare s q m k b r b' → r ≡ shareAnswer s q m k (lent b)
@@ -118,12 +118,12 @@ did-outside m k o o' d =
 -- ---- calls one after the other
 
 -- any calls of a party leave the buffers as long, and the other's share as it was
-pub called-other : (m k : Shares) (xs : List Call) (o o' : Outs) → Called m k xs o o' → (sizesOf o' ≡ sizesOf o) × (shareOf k o' ≡ shareOf k o)
-called-other m k [] o o' e = (ap sizesOf (sym e), ap (shareOf k) (sym e))
-called-other m k (x ∷ xs) o o'' c =
-    let d = did (c .1 .1 .0) in
-    let later = called-other m k xs (c .1 .0) o'' (c .1 .1 .1) in
-    (later .0 ∙ did-sizes m k o (c .1 .0) d, later .1 ∙ did-other m k o (c .1 .0) d)
+pub called-other : (m k : Shares) (o o' : Outs) → Called m k o o' → (sizesOf o' ≡ sizesOf o) × (shareOf k o' ≡ shareOf k o)
+called-other m k _ _ (none o o' e) = (ap sizesOf (sym e), ap (shareOf k) (sym e))
+called-other m k _ _ (then s q c c' r o p o' B later) =
+    let d = did B in
+    let rest = called-other m k p o' later in
+    (rest .0 ∙ did-sizes m k o p d, rest .1 ∙ did-other m k o p d)
 
 -- ---- what a call answers, and leaves in its own share, is a function of what is there and of the lengths
 

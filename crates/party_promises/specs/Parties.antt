@@ -1,6 +1,6 @@
 -- What the theorems of proofs/Demands say of two parties, in the words of 02 §5.
 use Prim.Native.Nat.{ℕ, _+_, _<_, _≤_}
-use mathlib.Core.List.{List, [], _∷_}
+use mathlib.Core.List.{List}
 use mathlib.Core.Bool.{false}
 use mathlib.Core.Logic.{_⊎_}
 use mathlib.Core.Path.{_≡_}
@@ -70,17 +70,11 @@ pub record Outside (m : Shares) (o o' : Outs) : Type 0 where
 
 -- ---- 'any calls of the other given those same shares'
 
--- a call: any job and any records, and a scratch of its own or the same one, before it and after it
-pub record Call : Type 0 where
-  pub job : List ℕ
-  pub records : List ℕ
-  pub before : Scratch
-  pub after : Scratch
-
 abbrev pub at : Outs → Scratch → Buffers
 at o c = record { outs = o; scratch = c }
 
--- a party whose shares are m, where k are the other's, made these calls one after the other, refused or not: the buffers held o before the first, and o' after the last
-abbrev pub Called : Shares → Shares → List Call → Outs → Outs → Type 0
-Called m k [] o o' = o ≡ o'
-Called m k (x ∷ xs) o o'' = (r : Built) × ((o' : Outs) × (BuildsShare (x .job) (x .records) m k (at o (x .before)) r (at o' (x .after)) × Called m k xs o' o''))
+-- a party whose shares are m, where k are the other's, made calls one after the other, any number of them, refused or not: of any job s and any records q, with a
+-- scratch of its own or the same one. The buffers held o before the first, and o' after the last
+pub data Called (m k : Shares) : Outs → Outs → Type 0 where
+  none : (o o' : Outs) → o ≡ o' → Called m k o o'
+  then : (s q : List ℕ) (c c' : Scratch) (r : Built) (o p o' : Outs) → BuildsShare s q m k (at o c) r (at p c') → Called m k p o' → Called m k o o'

@@ -2,7 +2,7 @@ use mathlib.Core.Path.{sym, _∙_}
 use Rattle.job.proofs.Laws.{shared-whole}
 use Rattle.job.proofs.Accepted.{shared-accepted}
 use Rattle.ribbon.proofs.Laws.{chained}
-use Rattle.party_promises.proofs.Kept.{records-refused, records-passed}
+use Rattle.party_promises.proofs.Kept.{records-refused, records-kept}
 use borrow.Author.Needs.{needs}
 use Rattle.parties.proofs.plan_records.Statement.{statement}
 use Rattle.parties.proofs.plan_records.Tie as tie
@@ -16,7 +16,7 @@ plan-checked-requires c κs =
 returns-2 : tie.Need-returns-2
 returns-2 c =
     let f = c .before .before .before .before .plan-checked .ensures in
-    records-passed _ _ _ (sym (c .before .before .before .before .before .before .before .before .before .before .check-shared .ensures) ∙ c .before .before .before .before .before .before .before .before .c2 .given .1) _ _ _ _ (f .0) (f .1)
+    records-kept _ _ _ (sym (c .before .before .before .before .before .before .before .before .before .before .check-shared .ensures) ∙ c .before .before .before .before .before .before .before .before .c2 .given .1) _ _ _ _ (f .0) (f .1)
 
 pub plan-records-spec : {M : Type 1} → statement M
 plan-records-spec =
