@@ -11,7 +11,6 @@ use Rattle.parties.proofs.build_share.Tie as tie
 
 returns : tie.Need-returns
 returns c =
-    let args = c .before .before .before .before .before .before .before .before .before .before .before .before .before .before .before .before .args in
     share-bad _ _ _ _ _ (sym (c .before .before .before .before .before .check-shared .ensures) ∙ c .before .before .before .c2 .given .1) _ (sym (c .before .is-bad-shares .ensures) ∙ c .if1 .taken)
 
 build-within-requires : tie.Need-build-within-requires

@@ -87,22 +87,22 @@ build-within-spec =
     add-e4
     add-e5
     mul-build-checked
-    (λ c. search needs) (λ c. search needs)
+    (λ c. omega arith) (λ c. omega arith)
     part-build-checked-end
     mul-build-checked-2
-    (λ c. search needs) (λ c. search needs)
+    (λ c. omega arith) (λ c. omega arith)
     part-build-checked-end-2
     mul-build-checked-3
-    (λ c. search needs) (λ c. search needs)
+    (λ c. omega arith) (λ c. omega arith)
     part-build-checked-end-3
     mul-build-checked-4
-    (λ c. search needs) (λ c. search needs)
+    (λ c. omega arith) (λ c. omega arith)
     part-build-checked-end-4
     mul-build-checked-5
-    (λ c. search needs) (λ c. search needs)
+    (λ c. omega arith) (λ c. omega arith)
     part-build-checked-end-5
     mul-build-checked-6
-    (λ c. search needs) (λ c. search needs)
+    (λ c. omega arith) (λ c. omega arith)
     part-build-checked-end-6
     build-checked-requires
     (λ c. c .before .before .before .before .before .before .before .before .before .before .before .before .before .before .before .positions .given .1)
@@ -111,5 +111,5 @@ build-within-spec =
     (λ c. c .before .before .before .before .before .before .before .before .before .triangles .given .1)
     (λ c. c .before .before .before .before .before .before .before .tubes .given .1)
     (λ c. c .before .before .before .before .before .boxes .given .1)
-    (λ c. search needs) (λ c. search needs)
+    (λ c. omega arith) (λ c. omega arith)
     returns)
