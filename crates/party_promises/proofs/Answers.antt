@@ -39,6 +39,7 @@ use Rattle.promises.proofs.Checks.{mesh-or-not, plan-or-not, same-refusal}
 use Rattle.promises.proofs.Demands as base
 use Rattle.party_promises.specs.Calls.{shareLent, shareChecks, sharedBy, shareScratch, recordsAnswer, BuildsShare, PlansRecords}
 use Rattle.party_promises.specs.Parties.{AllBytes, Shared, PassesShared, GoodShares, inShare, NoShorterShares, at, Called}
+use Rattle.party_promises.proofs.Ladder.{bad-first, good-then}
 use Rattle.party_promises.proofs.Sharing.{answer-is, called-other, alike}
 use Rattle.party_promises.proofs.AsJob.{passes-by, shared-by, answer-refused, outs-left, scratch-left, answer-passed, outs-passed, scratch-passed, plan-refused, records-passed, builds-as-job}
 
@@ -66,7 +67,7 @@ pub data Exit (s q : List ℕ) (m k : Shares) (b : Buffers) (r : Built) : Type 0
   mesh : PassesShared s q → GoodShares (b .outs) m k → short s b ≡ false → (c : Counts) → r ≡ Mesh c → Exit s q m k b r
 
 pub exit : {s q : List ℕ} {m k : Shares} {b b' : Buffers} {r : Built} → BuildsShare s q m k b r b' → Exit s q m k b r
-unfolding shareChecks buildChecks
+unfolding buildChecks
 exit {s} {q} {m} {k} {b} {r = r} B = go (checkShared s q) refl
   where
     room : PassesShared s q → GoodShares (b .outs) m k → short s b ≡ false → (us : List Tube) (x : Bool)
@@ -84,10 +85,9 @@ exit {s} {q} {m} {k} {b} {r = r} B = go (checkShared s q) refl
     lends p g us true x y f e = nine p g f e
     lends p g us false x y f e = many p g f us x y e
 
-    shared : PassesShared s q → (us : List Tube) (v : Bool) → badShares (sizesOf (b .outs)) m k ≡ v → r ≡ cond v (NoMesh BadShares) (buildChecks (headOf s) us (shareLent m (lent b)))
-        → Exit s q m k b r
-    shared p us true t e = bad p t e
-    shared p us false t e = lends p t us (short s b) (tooMany us) (tight (countsOf us) (shareSizes m)) refl e
+    shared : PassesShared s q → (us : List Tube) (v : Bool) → badShares (sizesOf (b .outs)) m k ≡ v → r ≡ shareChecks (headOf s) us m k (lent b) → Exit s q m k b r
+    shared p us true t e = bad p t (e ∙ bad-first (headOf s) us m k (lent b) t)
+    shared p us false t e = lends p t us (short s b) (tooMany us) (tight (countsOf us) (shareSizes m)) refl (e ∙ good-then (headOf s) us m k (lent b) t)
 
     go : (c : Checked) → checkShared s q ≡ c → Exit s q m k b r
     go (Refused x) e = early x e (answer-is B ∙ answer-refused s q m k x e (lent b))
@@ -185,10 +185,7 @@ pub four : {s q : List ℕ} {m k : Shares} {b b' : Buffers} {r : Built} {h : Hea
 four {s} {q} {m} {k} {b} {h = h} e u B = answer-is B ∙ answer-refused s q m k BadSize (shared-unshared s q h e u) (lent b)
 
 pub twenty : {s q : List ℕ} {m k : Shares} {b b' : Buffers} {r : Built} → PassesShared s q → badShares (sizesOf (b .outs)) m k ≡ true → BuildsShare s q m k b r b' → r ≡ NoMesh BadShares
-unfolding shareChecks
-twenty {s} {q} {m} {k} {b} p t B =
-    answer-is B ∙ answer-passed s q m k (headOf s) p (lent b)
-    ∙ ap (λ (y : Bool). cond y (NoMesh BadShares) (buildChecks (headOf s) (tubesWith s (headOf s) q) (shareLent m (lent b)))) t
+twenty {s} {q} {m} {k} {b} p t B = answer-is B ∙ answer-passed s q m k (headOf s) p (lent b) ∙ bad-first (headOf s) (tubesWith s (headOf s) q) m k (lent b) t
 
 pub twenty-means : {s q : List ℕ} {m k : Shares} {b b' : Buffers} → BuildsShare s q m k b (NoMesh BadShares) b' → PassesShared s q × (badShares (sizesOf (b .outs)) m k ≡ true)
 twenty-means {s} {q} {m} {k} {b} B = go (exit B)

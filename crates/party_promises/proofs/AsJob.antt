@@ -33,6 +33,7 @@ use Rattle.promises.proofs.Told.{planned-told}
 use Rattle.promises.proofs.Kept.{builds-passed, builds-refused, plans-passed, plans-refused}
 use Rattle.party_promises.specs.Calls.{shareLent, shareChecks, shareAnswer, sharedBy, shareOuts, shareScratch, recordsAnswer, recordsScratch, BuildsShare, PlansRecords}
 use Rattle.party_promises.specs.Parties.{AllBytes, Shared, PassesShared, GoodShares, inShare}
+use Rattle.party_promises.proofs.Ladder.{good-then}
 use Rattle.party_promises.proofs.Sharing.{answer-is, filled-sizes}
 
 -- ---- what a party's job passes
@@ -126,8 +127,7 @@ module _ (s q : List ℕ) (h : Head) (e : checkShared s q ≡ Fine h) where
     lent-same = ap (λ (z : Sizes). record { outs = z; words = length (b .scratch .words); floats = length (b .scratch .floats) }) (sym (sizes-share m (b .outs) F))
 
     checked : shareChecks h (tubesWith s h q) m k (lent b) ≡ buildChecks h (tubesWith s h q) (lent (inShare m b))
-    unfolding shareChecks
-    checked = rw g (ap (buildChecks h (tubesWith s h q)) lent-same)
+    checked = good-then h (tubesWith s h q) m k (lent b) g ∙ ap (buildChecks h (tubesWith s h q)) lent-same
 
     pub result-is : r ≡ buildChecks h (tubesWith s h q) (lent (inShare m b))
     result-is = answer-is B ∙ answer-passed s q m k h e (lent b) ∙ checked

@@ -1,8 +1,8 @@
--- 02 §5, TWO ANNOTATORS ON ONE STRUCTURE, as theorems. Each is over the promises themselves: `BuildsShare s q m k b r b'`
--- is all that the contract of build_share says (of a shared job's bytes s and the caller's records q, with the caller's
--- shares m and the other's k, where the whole buffers and the scratch held b, it answers r and leaves them as b'), and
--- `PlansRecords s q t c r c'` is that of plan_records. Assumes nothing. The definitions are those of specs/Calls and
--- specs/Parties. docs/PROOFS.md quotes each statement, with words.
+-- 02 §5, TWO ANNOTATORS ON ONE STRUCTURE, as theorems. Each is over the promises themselves:
+-- `BuildsShare s q m k b r b'` is all that the contract of build_share says (of a shared job's bytes s and the caller's
+-- records q, with the caller's shares m and the other's k, where the whole buffers and the scratch held b, it answers r
+-- and leaves them as b'), and `PlansRecords s q t c r c'` is that of plan_records. Assumes nothing. The definitions are
+-- those of specs/Calls and specs/Parties. docs/PROOFS.md quotes each statement, with words.
 use Prim.Native.Nat.{ℕ, _*_, _<_, _≤_}
 use mathlib.Core.List.{List}
 use mathlib.Core.Bool.{true}
@@ -51,7 +51,10 @@ pub records-determined : {s q : List ℕ} {k : ℕ} {c c' c'' : Scratch} {r t : 
 records-determined P Q = answers.one-plan P Q
 
 pub share-allowed : (s q : List ℕ) (m k : Shares) (b : Buffers) → BuildsShare s q m k b (shareAnswer s q m k (lent b))
-    (record { outs = shareOuts s q m k (lent b) (b .outs); scratch = shareScratch s q m k (sizesOf (b .outs)) (b .scratch) })
+    (record {
+      outs = shareOuts s q m k (lent b) (b .outs);
+      scratch = shareScratch s q m k (sizesOf (b .outs)) (b .scratch);
+    })
 share-allowed s q m k b = record { answer = refl; outputs = refl; scratch = refl }
 
 pub records-allowed : (s q : List ℕ) (k : ℕ) (c : Scratch)
@@ -77,8 +80,9 @@ pub share-scratch-kept : {s q : List ℕ} {m k : Shares} {b b' : Buffers} {x : R
     → BuildsShare s q m k b (NoMesh x) b' → (numberOf x ≤ 9) ⊎ (numberOf x ≡ 20) → b' .scratch ≡ b .scratch
 share-scratch-kept B h = answers.kept B h
 
-pub share-scratch-cleared : {s q : List ℕ} {m k : Shares} {b b' : Buffers} {x : Refusal} → BuildsShare s q m k b (NoMesh x) b'
-    → 9 < numberOf x → numberOf x < 20 → b' .scratch ≡ cleared (headOf s) (b .scratch)
+pub share-scratch-cleared : {s q : List ℕ} {m k : Shares} {b b' : Buffers} {x : Refusal}
+    → BuildsShare s q m k b (NoMesh x) b' → 9 < numberOf x → numberOf x < 20
+    → b' .scratch ≡ cleared (headOf s) (b .scratch)
 share-scratch-cleared B h l = answers.emptied B h l
 
 pub share-scratch-after-mesh : {s q : List ℕ} {m k : Shares} {b b' : Buffers} {c : Counts}
@@ -162,7 +166,8 @@ isolated X₁ B Y₁ X₂ D Y₂ w f = answers.isolated X₁ B Y₁ X₂ D Y₂ 
 -- ==== 'Demands 2 and 3 are read so, where buffers no shorter are shares no shorter that pass 20'
 
 -- the share holds the mesh of 01's list for the job with those records, at its front
-pub share-holds : {s q : List ℕ} {m k : Shares} {b b' : Buffers} {c : Counts} → AllBytes s → BuildsShare s q m k b (Mesh c) b'
+pub share-holds : {s q : List ℕ} {m k : Shares} {b b' : Buffers} {c : Counts}
+    → AllBytes s → BuildsShare s q m k b (Mesh c) b'
     → HoldsMesh (proteinIn (withRecords s q)) (tubesIn (withRecords s q)) (shareOf m (b .outs)) (shareOf m (b' .outs))
 share-holds y B = answers.holds y B
 
@@ -173,13 +178,14 @@ pub share-tube-stands : {s q : List ℕ} {m k : Shares} {b b' : Buffers} {c : Co
     (triangleSum (take i (tubesIn (withRecords s q)))) (shareOf m (b' .outs))
 share-tube-stands y B t = answers.stands y B t
 
-pub share-closed : {s q : List ℕ} {m k : Shares} {b b' : Buffers} {c : Counts} → AllBytes s → BuildsShare s q m k b (Mesh c) b'
+pub share-closed : {s q : List ℕ} {m k : Shares} {b b' : Buffers} {c : Counts}
+    → AllBytes s → BuildsShare s q m k b (Mesh c) b'
     → Sound 0 (c .vertices) (c .triangles) (take (3 * c .triangles) (shareOf m (b' .outs) .triangles))
 share-closed y B = answers.closed y B
 
 -- shares no shorter that pass 20, in any buffers, with scratch no shorter, get the same mesh
-pub same-in-longer-shares : {s q : List ℕ} {m k n l : Shares} {b b' d d' : Buffers} {c : Counts} {r : Built} → AllBytes s
-    → BuildsShare s q m k b (Mesh c) b' → NoShorterShares m n → NoLess (b .scratch) (d .scratch)
+pub same-in-longer-shares : {s q : List ℕ} {m k n l : Shares} {b b' d d' : Buffers} {c : Counts} {r : Built}
+    → AllBytes s → BuildsShare s q m k b (Mesh c) b' → NoShorterShares m n → NoLess (b .scratch) (d .scratch)
     → GoodShares (d .outs) n l → BuildsShare s q n l d r d'
     → (r ≡ Mesh c) × SameMesh c (shareOf m (b' .outs)) (shareOf n (d' .outs))
 same-in-longer-shares y B N w g D = answers.longer y B N w g D

@@ -23,6 +23,7 @@ use Rattle.promises.specs.declared.Planned.the-variants.{NoPlan}
 use Rattle.promises.specs.Calls.{tubesWith, buildChecks, outsBy, planChecks}
 use Rattle.party_promises.specs.Calls.{shareLent, shareChecks, shareAnswer, sharedBy, shareOuts, shareScratch, recordsAnswer, recordsScratch, BuildsShare, PlansRecords}
 use Rattle.party_promises.specs.Parties.{GoodShares, inShare}
+use Rattle.party_promises.proofs.Ladder.{bad-first, good-then}
 use Rattle.party_promises.proofs.AsJob.{answer-refused, outs-left, scratch-left, answer-passed, outs-passed, scratch-passed, plan-refused, plan-left, records-passed}
 
 pub share-refused : (s q : List ℕ) (m k : Shares) (b : Buffers) (r : Refusal) → checkShared s q ≡ Refused r → BuildsShare s q m k b (NoMesh r) b
@@ -34,13 +35,9 @@ share-refused s q m k b r e =
 
 module _ (s q : List ℕ) (m k : Shares) (h : Head) (e : checkShared s q ≡ Fine h) where
   -- 20
-  bad-checks : (l : Lent) → badShares (l .outs) m k ≡ true → shareChecks h (tubesWith s h q) m k l ≡ NoMesh BadShares
-  unfolding shareChecks
-  bad-checks l t = rw t
-
   pub share-bad : (b : Buffers) → badShares (sizesOf (b .outs)) m k ≡ true → BuildsShare s q m k b (NoMesh BadShares) b
   share-bad b t =
-      let x = bad-checks (lent b) t in
+      let x = bad-first h (tubesWith s h q) m k (lent b) t in
       let a : NoMesh BadShares ≡ shareAnswer s q m k (lent b) = sym (answer-passed s q m k h e (lent b) ∙ x) in
       let o : b .outs ≡ shareOuts s q m k (lent b) (b .outs)
       = sym (outs-passed s q m k h e (lent b) (b .outs) ∙ ap (λ (y : Built). sharedBy y (proteinOf s h) (tubesWith s h q) m (b .outs)) x) in
@@ -50,10 +47,9 @@ module _ (s q : List ℕ) (m k : Shares) (h : Head) (e : checkShared s q ≡ Fin
 
   -- 9 to 11, and the mesh, in the share
   good-checks : (b : Buffers) → GoodShares (b .outs) m k → shareChecks h (tubesWith s h q) m k (lent b) ≡ buildChecks h (tubesWith s h q) (lent (inShare m b))
-  unfolding shareChecks
   good-checks b g =
-      rw g (ap (λ (z : Sizes). buildChecks h (tubesWith s h q) (record { outs = z; words = length (b .scratch .words); floats = length (b .scratch .floats) }))
-      (sym (sizes-share m (b .outs) (good-fits m k (b .outs) g .0))))
+      good-then h (tubesWith s h q) m k (lent b) g ∙ ap (λ (z : Sizes). buildChecks h (tubesWith s h q) (record { outs = z; words = length (b .scratch .words); floats = length (b .scratch .floats) }))
+      (sym (sizes-share m (b .outs) (good-fits m k (b .outs) g .0)))
 
   back-by : (r : Built) (P : Protein) (us : List Tube) (o : Outs) → withShare m o (outsBy r P us (shareOf m o)) ≡ sharedBy r P us m o
   back-by (NoMesh r) P us o = with-share m o

@@ -1,3 +1,4 @@
+pub mod Ladder
 pub mod Sharing
 pub mod AsJob
 pub mod Kept

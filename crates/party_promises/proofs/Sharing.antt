@@ -25,6 +25,7 @@ use Rattle.promises.specs.declared.Built.the-variants.{Mesh, NoMesh}
 use Rattle.promises.specs.Calls.{byCheck, tubesWith, buildChecks, filled}
 use Rattle.promises.proofs.Told.{built-told}
 use Rattle.party_promises.specs.Calls.{afterShared, shareLent, shareChecks, shareAnswer, sharedBy, shareOuts, shareScratch, BuildsShare}
+use Rattle.party_promises.proofs.Ladder.{bad-first, good-then}
 use Rattle.party_promises.specs.Parties.{GoodShares, SameOutside, OutsideOf, Outside, at, Called, none, then}
 
 -- what a promise says of an answer's numbers it says of the answer
@@ -47,7 +48,6 @@ abbrev pub Did : Shares → Shares → Outs → Outs → Type 0
 Did m k o o' = (o' ≡ o) ⊎ Wrote m k o o'
 
 did-by : (m k : Shares) (o : Outs) (P : Protein) (us : List Tube) (h : Head) (l : Lent) → l .outs ≡ sizesOf o → Did m k o (sharedBy (shareChecks h us m k l) P us m o)
-unfolding shareChecks
 did-by m k o P us h l e = go (badShares (l .outs) m k) refl
   where
     built : badShares (l .outs) m k ≡ false → (r : Built) → Did m k o (sharedBy r P us m o)
@@ -56,9 +56,9 @@ did-by m k o P us h l e = go (badShares (l .outs) m k) refl
         let good : GoodShares o m k = ap (λ (n : Sizes). badShares n m k) (sym e) ∙ g in
         inr (good, (filled P us (shareOf m o), (filled-sizes P us (shareOf m o) ∙ sizes-share m o (good-fits m k o good .0), refl)))
 
-    go : (t : Bool) → badShares (l .outs) m k ≡ t → Did m k o (sharedBy (cond t (NoMesh BadShares) (buildChecks h us (shareLent m l))) P us m o)
-    go true g = inl refl
-    go false g = built g (buildChecks h us (shareLent m l))
+    go : (t : Bool) → badShares (l .outs) m k ≡ t → Did m k o (sharedBy (shareChecks h us m k l) P us m o)
+    go true g = rw (bad-first h us m k l g) (inl refl)
+    go false g = rw (good-then h us m k l g) (built g (buildChecks h us (shareLent m l)))
 
 pub did : {s q : List ℕ} {m k : Shares} {b b' : Buffers} {r : Built} → BuildsShare s q m k b r b' → Did m k (b .outs) (b' .outs)
 unfolding shareOuts
@@ -132,7 +132,6 @@ answer-same s q m k l l' e = ap (shareAnswer s q m k) e
 
 own-by : (m k : Shares) (o p : Outs) (P : Protein) (us : List Tube) (h : Head) (l : Lent) → l .outs ≡ sizesOf o → sizesOf o ≡ sizesOf p → shareOf m o ≡ shareOf m p
     → shareOf m (sharedBy (shareChecks h us m k l) P us m o) ≡ shareOf m (sharedBy (shareChecks h us m k l) P us m p)
-unfolding shareChecks
 own-by m k o p P us h l e z w = go (badShares (l .outs) m k) refl
   where
     built : badShares (l .outs) m k ≡ false → (r : Built) → shareOf m (sharedBy r P us m o) ≡ shareOf m (sharedBy r P us m p)
@@ -144,10 +143,9 @@ own-by m k o p P us h l e z w = go (badShares (l .outs) m k) refl
         ∙ ap (filled P us) w
         ∙ sym (share-with m p (filled P us (shareOf m p)) G (filled-sizes P us (shareOf m p) ∙ sizes-share m p G))
 
-    go : (t : Bool) → badShares (l .outs) m k ≡ t
-        → shareOf m (sharedBy (cond t (NoMesh BadShares) (buildChecks h us (shareLent m l))) P us m o) ≡ shareOf m (sharedBy (cond t (NoMesh BadShares) (buildChecks h us (shareLent m l))) P us m p)
-    go true g = w
-    go false g = built g (buildChecks h us (shareLent m l))
+    go : (t : Bool) → badShares (l .outs) m k ≡ t → shareOf m (sharedBy (shareChecks h us m k l) P us m o) ≡ shareOf m (sharedBy (shareChecks h us m k l) P us m p)
+    go true g = rw (bad-first h us m k l g) w
+    go false g = rw (good-then h us m k l g) (built g (buildChecks h us (shareLent m l)))
 
 own-same : (s q : List ℕ) (m k : Shares) (l : Lent) (o p : Outs) → l .outs ≡ sizesOf o → sizesOf o ≡ sizesOf p → shareOf m o ≡ shareOf m p
     → shareOf m (shareOuts s q m k l o) ≡ shareOf m (shareOuts s q m k l p)
