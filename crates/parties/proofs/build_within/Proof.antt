@@ -32,37 +32,37 @@ mul-build-checked : tie.Need-mul-build-checked
 mul-build-checked c = record { fits = omega (arith, c .before .before .before .before .before .before .before .before .before .before .before .before .before .before .before .before .pre .3 .positions, c .before .before .before .before .before .before .before .before .before .before .before .before .before .before .before .before .good) }
 
 part-build-checked-end : tie.Need-part-build-checked-end
-part-build-checked-end c = c .before .before .before .before .before .before .before .before .before .before .before .before .before .before .before .before .pre .3 .positions
+part-build-checked-end c = omega (arith, c .before .before .before .before .before .before .before .before .before .before .before .before .before .before .before .before .pre .3 .positions)
 
 mul-build-checked-2 : tie.Need-mul-build-checked-2
 mul-build-checked-2 c = record { fits = omega (arith, c .before .before .before .before .before .before .before .before .before .before .before .before .before .before .before .before .before .pre .3 .normals, c .before .before .before .before .before .before .before .before .before .before .before .before .before .before .before .before .before .good) }
 
 part-build-checked-end-2 : tie.Need-part-build-checked-end-2
-part-build-checked-end-2 c = c .before .before .before .before .before .before .before .before .before .before .before .before .before .before .before .before .before .pre .3 .normals
+part-build-checked-end-2 c = omega (arith, c .before .before .before .before .before .before .before .before .before .before .before .before .before .before .before .before .before .pre .3 .normals)
 
 mul-build-checked-3 : tie.Need-mul-build-checked-3
 mul-build-checked-3 c = record { fits = omega (arith, c .before .before .before .before .before .before .before .before .before .before .before .before .before .before .before .before .before .before .pre .3 .tags, c .before .before .before .before .before .before .before .before .before .before .before .before .before .before .before .before .before .before .good) }
 
 part-build-checked-end-3 : tie.Need-part-build-checked-end-3
-part-build-checked-end-3 c = c .before .before .before .before .before .before .before .before .before .before .before .before .before .before .before .before .before .before .pre .3 .tags
+part-build-checked-end-3 c = omega (arith, c .before .before .before .before .before .before .before .before .before .before .before .before .before .before .before .before .before .before .pre .3 .tags)
 
 mul-build-checked-4 : tie.Need-mul-build-checked-4
 mul-build-checked-4 c = record { fits = omega (arith, c .before .before .before .before .before .before .before .before .before .before .before .before .before .before .before .before .before .before .before .pre .3 .triangles, c .before .before .before .before .before .before .before .before .before .before .before .before .before .before .before .before .before .before .before .good) }
 
 part-build-checked-end-4 : tie.Need-part-build-checked-end-4
-part-build-checked-end-4 c = c .before .before .before .before .before .before .before .before .before .before .before .before .before .before .before .before .before .before .before .pre .3 .triangles
+part-build-checked-end-4 c = omega (arith, c .before .before .before .before .before .before .before .before .before .before .before .before .before .before .before .before .before .before .before .pre .3 .triangles)
 
 mul-build-checked-5 : tie.Need-mul-build-checked-5
 mul-build-checked-5 c = record { fits = omega (arith, c .before .before .before .before .before .before .before .before .before .before .before .before .before .before .before .before .before .before .before .before .pre .3 .tubes, c .before .before .before .before .before .before .before .before .before .before .before .before .before .before .before .before .before .before .before .before .good) }
 
 part-build-checked-end-5 : tie.Need-part-build-checked-end-5
-part-build-checked-end-5 c = c .before .before .before .before .before .before .before .before .before .before .before .before .before .before .before .before .before .before .before .before .pre .3 .tubes
+part-build-checked-end-5 c = omega (arith, c .before .before .before .before .before .before .before .before .before .before .before .before .before .before .before .before .before .before .before .before .pre .3 .tubes)
 
 mul-build-checked-6 : tie.Need-mul-build-checked-6
 mul-build-checked-6 c = record { fits = omega (arith, c .before .before .before .before .before .before .before .before .before .before .before .before .before .before .before .before .before .before .before .before .before .pre .3 .boxes, c .before .before .before .before .before .before .before .before .before .before .before .before .before .before .before .before .before .before .before .before .before .good) }
 
 part-build-checked-end-6 : tie.Need-part-build-checked-end-6
-part-build-checked-end-6 c = c .before .before .before .before .before .before .before .before .before .before .before .before .before .before .before .before .before .before .before .before .before .pre .3 .boxes
+part-build-checked-end-6 c = omega (arith, c .before .before .before .before .before .before .before .before .before .before .before .before .before .before .before .before .before .before .before .before .before .pre .3 .boxes)
 
 build-checked-requires : tie.Need-build-checked-requires
 build-checked-requires c κs = let pre = c .before .before .before .before .before .before .before .before .before .before .before .before .before .before .before .before .before .before .before .before .before .before .before .before .pre in (pre .0, pre .1, pre .2)
