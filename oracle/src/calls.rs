@@ -21,6 +21,21 @@ pub struct Buffers {
     pub floats: Vec<f32>,
 }
 
+impl Buffers {
+    /// The lengths of the six output buffers.
+    pub fn outputs(&self) -> [u64; 6] {
+        [
+            self.positions.len(),
+            self.normals.len(),
+            self.tags.len(),
+            self.triangles.len(),
+            self.tubes.len(),
+            self.boxes.len(),
+        ]
+        .map(|n| n as u64)
+    }
+}
+
 #[derive(Clone, Copy, Debug, PartialEq, Eq)]
 pub struct Counts {
     pub k: u32,
@@ -43,7 +58,7 @@ pub fn list(job: &Job) -> Tubes {
 }
 
 /// Check 9, which stands between those of the job and those of its tubes.
-fn check_scratch(job: &Job, words: &[u32], floats: &[f32]) -> Result<(), Refusal> {
+pub fn check_scratch(job: &Job, words: &[u32], floats: &[f32]) -> Result<(), Refusal> {
     let r = job.residues.len();
     if words.len() < 8 * r || floats.len() < 32 * r {
         return Err(Refusal::new(9, 0));
@@ -79,15 +94,7 @@ fn check_outputs(tubes: &Tubes, b: &Buffers) -> Result<(), Refusal> {
     if wrong(Mutation::BoxesNotChecked) {
         needs[5] = 0;
     }
-    let lengths = [
-        b.positions.len(),
-        b.normals.len(),
-        b.tags.len(),
-        b.triangles.len(),
-        b.tubes.len(),
-        b.boxes.len(),
-    ];
-    if lengths.iter().zip(needs).any(|(&l, n)| (l as u64) < n) {
+    if b.outputs().into_iter().zip(needs).any(|(l, n)| l < n) {
         return Err(Refusal {
             number: 11,
             carried: [tubes.k as u32, tubes.v as u32, tubes.t as u32],

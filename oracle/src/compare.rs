@@ -14,10 +14,11 @@ use std::{
 use crate::{
     angles,
     generator::Kind,
-    job::{NONE, RawJob},
+    job::{NONE, RawJob, RawSegment, records_of},
+    parties::Share,
     protocol::{
-        BUILD, MeshWords, NAMES, READ, READ_STL, Request, TOO_LONG, TUBE, WRITE_STL, answer,
-        decode_words, places, read_answer,
+        BUILD, BUILD_SHARE, MeshWords, NAMES, PLAN_RECORDS, PartyBytes, READ, READ_STL, Request,
+        TOO_LONG, TUBE, WRITE_STL, answer, decode_words, places, read_answer,
     },
     shrink::shrink,
     stl::HEADER,
@@ -42,7 +43,8 @@ pub struct Options {
 pub struct Tally {
     pub meshes: u64,
     pub plans: u64,
-    pub refusals: [u64; 20],
+    /// By number, up to 20, the last that a call here gives.
+    pub refusals: [u64; 21],
     pub empty_parts: u64,
     pub parts: u64,
     pub passed_over: u64,
@@ -64,7 +66,7 @@ impl Tally {
             (_, TOO_LONG) => self.passed_over += 1,
             (TUBE, 0) => self.empty_parts += 1,
             (TUBE, _) => self.parts += 1,
-            (BUILD, 0) => {
+            (BUILD | BUILD_SHARE, 0) => {
                 self.meshes += 1;
                 self.vertices += a[2] as u64;
             }
@@ -312,10 +314,39 @@ pub fn dump(r: &Request) -> String {
         out.push_str(&dump_mesh(r));
     } else if r.call == READ_STL {
         out.push_str(&dump_stl(&r.bytes));
+    } else if r.call == BUILD_SHARE || r.call == PLAN_RECORDS {
+        out.push_str(&dump_party(r));
     } else if let Some(job) = RawJob::of(&r.bytes) {
         out.push_str(&dump_job(&job));
     }
     out
+}
+
+/// Both parties' shares, the job, and the calling party's records.
+fn dump_party(r: &Request) -> String {
+    let Some(party) = PartyBytes::of(r) else {
+        return "the bytes end before the records do\n".to_string();
+    };
+    let mut out = String::new();
+    for (i, shares) in party.shares.iter().flatten().enumerate() {
+        let text = |(name, s): (&&str, &Share)| format!("{name} {} + {}", s.start, s.length);
+        let shares: Vec<_> = NAMES.iter().zip(shares).map(text).collect();
+        out.push_str(&format!("shares of party {i}: {}\n", shares.join(", ")));
+    }
+    match RawJob::of(&party.job) {
+        Some(job) => out.push_str(&dump_job(&job)),
+        None => out.push_str(&format!("a job of {} bytes\n", party.job.len())),
+    }
+    // Last, since they may be very many.
+    out.push_str(&format!("{} bytes of records\n", party.records.len()));
+    out + &dump_segments("record", &records_of(&party.records))
+}
+
+fn dump_segments(name: &str, segments: &[RawSegment]) -> String {
+    let line = |(i, s): (usize, &RawSegment)| {
+        format!("{name} {i}: kind {}, {} to {}\n", s.kind, s.start, s.end)
+    };
+    segments.iter().enumerate().map(line).collect()
 }
 
 /// K, V, T and the tubes' records; then what is not 0 in the three buffers that the file is made of, as far as it is short.
@@ -360,12 +391,7 @@ fn dump_job(job: &RawJob) -> String {
     for (i, v) in job.visible.iter().enumerate() {
         out.push_str(&format!("chain {i}: visible {v}\n"));
     }
-    for (i, s) in job.segments.iter().enumerate() {
-        out.push_str(&format!(
-            "segment {i}: kind {}, {} to {}\n",
-            s.kind, s.start, s.end
-        ));
-    }
+    out.push_str(&dump_segments("segment", &job.segments));
     for (i, a) in job.atoms.iter().enumerate() {
         out.push_str(&format!(
             "atom {i}: serial {}, role {}, residue {}, chain {}, at {:?} {:?} {:?}\n",

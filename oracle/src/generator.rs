@@ -1,12 +1,12 @@
 //! Makes requests: jobs of every kind, each refusal at its boundary, damaged jobs, lent lengths around each need, tube buffers with any
-//! contents, PDB files, and by themselves jobs out of order, jobs for boxes, and STL. Request `i` of a seed does not depend on the others, so that a
-//! difference can be made again alone.
+//! contents, PDB files, and by themselves jobs out of order, jobs for boxes, STL, and two parties. Request `i` of a seed does not depend on the
+//! others, so that a difference can be made again alone.
 
 use crate::{
     calls::{list, needs},
     job::{LIMIT, MAX_RESIDUES, NONE, RawAtom, RawJob, decode, fix_length},
     jobs::{chaos, job, out_of_order, small},
-    pdb_files,
+    party_requests, pdb_files,
     protocol::{BUILD, MOST, MOST_BYTES, PLAN, Request, TUBE, encode_words},
     rng::Rng,
     stl_files,
@@ -29,7 +29,7 @@ fn next_up(x: f64) -> f64 {
 // ── Damage ────────────────────────────────────────────────────────────────────
 
 /// One field set to a value that 01 refuses, or to the last one that it allows.
-fn bad_field(rng: &mut Rng, job: &mut RawJob) {
+pub fn bad_field(rng: &mut Rng, job: &mut RawJob) {
     let (c, s, a) = (job.visible.len(), job.segments.len(), job.atoms.len());
     match rng.below(8) {
         0 => job.version = rng.pick(&[0, 2, 3, 255]),
@@ -67,7 +67,7 @@ fn bad_atom(rng: &mut Rng, a: &mut RawAtom, residues: u16, chains: u16) {
 }
 
 /// Bytes cut, lengthened or flipped, the length field put right afterwards or not.
-fn damage(rng: &mut Rng, b: &mut Vec<u8>) {
+pub fn damage(rng: &mut Rng, b: &mut Vec<u8>) {
     let n = b.len() as u64;
     match rng.below(7) {
         0 => b.truncate(rng.below(n + 1) as usize),
@@ -284,6 +284,11 @@ pub fn stl_request(seed: u64, index: u64) -> Request {
     stl_files::request(&mut Rng::new(seed, index))
 }
 
+/// A request of one of two parties.
+pub fn party_request(seed: u64, index: u64) -> Request {
+    party_requests::request(seed, index)
+}
+
 /// A build or a plan of a job whose atoms stand out of order.
 pub fn order_request(seed: u64, index: u64) -> Request {
     let mut rng = Rng::new(seed, index);
@@ -354,6 +359,8 @@ pub enum Kind {
     Boxes,
     /// Calls 5 and 6.
     Stl,
+    /// Calls 7 and 8.
+    Parties,
 }
 
 impl Kind {
@@ -365,6 +372,7 @@ impl Kind {
             "orders" => Some(Kind::Orders),
             "boxes" => Some(Kind::Boxes),
             "stl" => Some(Kind::Stl),
+            "parties" => Some(Kind::Parties),
             _ => None,
         }
     }
@@ -376,6 +384,7 @@ impl Kind {
             Kind::Orders => order_request(seed, index),
             Kind::Boxes => box_request(seed, index),
             Kind::Stl => stl_request(seed, index),
+            Kind::Parties => party_request(seed, index),
             Kind::Both if index % 3 == 2 => file_request(seed, index),
             _ => job_request(seed, index),
         }

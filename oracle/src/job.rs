@@ -112,11 +112,7 @@ impl RawJob {
             b.extend(n.to_be_bytes());
         }
         b.extend(&self.visible);
-        for s in &self.segments {
-            b.push(s.kind);
-            b.extend(s.start.to_be_bytes());
-            b.extend(s.end.to_be_bytes());
-        }
+        b.extend(record_bytes(&self.segments));
         for a in &self.atoms {
             b.extend(a.serial.to_be_bytes());
             b.push(a.role);
@@ -142,14 +138,7 @@ impl RawJob {
             version: b[4],
             residues,
             visible: b[13..segments_at].to_vec(),
-            segments: b[segments_at..atoms_at]
-                .chunks(9)
-                .map(|r| RawSegment {
-                    kind: r[0],
-                    start: u32_at(r, 1),
-                    end: u32_at(r, 5),
-                })
-                .collect(),
+            segments: records_of(&b[segments_at..atoms_at]),
             atoms: b[atoms_at..atoms_at + 33 * a as usize]
                 .chunks(33)
                 .map(|r| RawAtom {
@@ -168,6 +157,28 @@ impl RawJob {
             || a.residue != NONE && a.residue >= self.residues
             || a.chain != NONE && a.chain as usize >= self.visible.len()
     }
+}
+
+/// Segment records as they stand in a job, and in the slice of a party.
+pub fn record_bytes(segments: &[RawSegment]) -> Vec<u8> {
+    let record = |s: &RawSegment| {
+        let mut b = vec![s.kind];
+        b.extend(s.start.to_be_bytes());
+        b.extend(s.end.to_be_bytes());
+        b
+    };
+    segments.iter().flat_map(record).collect()
+}
+
+/// The whole records of these bytes; what stands behind the last one is left out.
+pub fn records_of(b: &[u8]) -> Vec<RawSegment> {
+    b.chunks_exact(9)
+        .map(|r| RawSegment {
+            kind: r[0],
+            start: u32_at(r, 1),
+            end: u32_at(r, 5),
+        })
+        .collect()
 }
 
 /// Makes the length field that of the bytes after it.
@@ -205,7 +216,8 @@ fn refuse_first<T>(number: u32, list: &[T], bad: impl Fn(&T) -> bool) -> Result<
     }
 }
 
-pub fn decode(b: &[u8]) -> Result<Job, Refusal> {
+/// Checks 1 to 4, and C, R, S, A.
+pub fn sizes(b: &[u8]) -> Result<[u16; 4], Refusal> {
     if b.len() < 13 || u32_at(b, 0) as usize != b.len() - 4 {
         return Err(Refusal::new(1, 0));
     }
@@ -216,7 +228,15 @@ pub fn decode(b: &[u8]) -> Result<Job, Refusal> {
     if c > MAX_CHAINS || r > MAX_RESIDUES {
         return Err(Refusal::new(3, 0));
     }
-    let raw = RawJob::of(b).ok_or(Refusal::new(4, 0))?;
+    if size(counts(b)) != b.len() {
+        return Err(Refusal::new(4, 0));
+    }
+    Ok(counts(b))
+}
+
+pub fn decode(b: &[u8]) -> Result<Job, Refusal> {
+    sizes(b)?;
+    let raw = RawJob::of(b).expect("a job of its counts");
     refuse_first(5, &raw.visible, |&v| v > 1)?;
     refuse_first(6, &raw.segments, |s| s.kind > 2)?;
     if wrong(Mutation::SevenWithEight) {

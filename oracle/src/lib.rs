@@ -1,5 +1,6 @@
 //! The oracle: document 000 (`ribbon_mesh.rs`) compiled over stand-ins which obey 01, the calls that 01 adds around it, a second reading of
-//! 02's files (PDB and STL), a generator of requests, the stream protocol, and the driver that compares another program with it bit for bit.
+//! 02's files (PDB and STL) and of its two parties, a generator of requests, the stream protocol, and the driver that compares another program
+//! with it bit for bit.
 
 pub mod angles;
 pub mod breaks;
@@ -10,6 +11,8 @@ pub mod differences;
 pub mod generator;
 pub mod job;
 pub mod jobs;
+pub mod parties;
+pub mod party_requests;
 pub mod pdb;
 pub mod pdb_files;
 pub mod plan_text;

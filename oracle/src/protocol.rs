@@ -1,22 +1,27 @@
 //! The stream protocol of the batch program: requests and answers as bytes, what the lent buffers hold before a call, and the oracle's
 //! own answer to a request. All numbers are big-endian.
 //!
-//! Request: u8 call (1 build, 2 plan, 3 tube, 4 read PDB, 5 write STL, 6 read STL); eight u32 lengths in places (positions, normals, tags,
-//! triangles, tubes, boxes, scratch words, scratch floats); u32 k; u32 L; L bytes: the job, for call 3 the tube buffer and then the triangle
-//! buffer, for calls 4 and 6 the file, for call 5 u32 K, V, T and then the contents of the six mesh buffers, four bytes a place (a NaN word of
-//! any kind is a NaN). Call 4 has the length of the lent job bytes in the place of positions, call 5 that of the lent STL bytes in the place of
+//! Request: u8 call (1 build, 2 plan, 3 tube, 4 read PDB, 5 write STL, 6 read STL, 7 one party's build, 8 one party's plan); eight u32 lengths in
+//! places (positions, normals, tags, triangles, tubes, boxes, scratch words, scratch floats); u32 k; u32 L; L bytes: the job, for call 3 the tube
+//! buffer and then the triangle buffer, for calls 4 and 6 the file, for call 5 u32 K, V, T and then the contents of the six mesh buffers, four bytes
+//! a place (a NaN word of any kind is a NaN). For call 7 twelve u32 of party 0 (start and length of its share of positions, normals, tags, triangles,
+//! tubes, boxes), twelve of party 1, u32 M, the calling party's M bytes of records, then the job; the lengths are those of the whole buffers, k is
+//! the calling party, 0 or 1. For call 8 u32 M, the party's M bytes of records, then the job; k is the tube. Call 4 has the length of the lent job bytes in the place of positions, call 5 that of the lent STL bytes in the place of
 //! scratch words, call 6 those of the lent corner and normal floats in the places of positions and normals. Whatever else stands in the lengths and
 //! in k of calls 4 to 6 is not looked at.
-//! Answer to 1: number (0: a mesh), three words (K, V, T or the carried values), every place of the eight buffers. To 2: the same four
+//! Answer to 1 and 7: number (0: a mesh), three words (K, V, T or the carried values), every place of the eight buffers. To 2 and 8: the same four
 //! words, tube k's five words, the two scratch buffers. To 3: the length of the part, then its words. To 4: number (0: a job), its size or the
 //! carried value, 0, 0, and every lent byte. To 5: the same with the file's size, and every lent byte. To 6: number (0: listed), T or the carried
 //! value, 0, 0, every corner float and every normal float. Words are four bytes each, but lent bytes are one. `TOO_LONG` alone answers an
-//! unknown call, a request past the program's arrays, and a call 3 or 5 whose bytes are not those of its lengths.
+//! unknown call, a request past the program's arrays, a call 3 or 5 whose bytes are not those of its lengths, a call 7 of a party that is neither 0
+//! nor 1, and a call 7 or 8 whose bytes end before its records do.
 
 use std::io::{self, Read};
 
 use crate::{
     calls::{self, Buffers, Counts},
+    job::Refusal,
+    parties::{Share, Shares, build_share, plan_records},
     pdb, stl,
 };
 
@@ -26,6 +31,8 @@ pub const TUBE: u8 = 3;
 pub const READ: u8 = 4;
 pub const WRITE_STL: u8 = 5;
 pub const READ_STL: u8 = 6;
+pub const BUILD_SHARE: u8 = 7;
+pub const PLAN_RECORDS: u8 = 8;
 pub const TOO_LONG: u32 = u32::MAX;
 pub const NAN: u32 = 0x7FC0_0000;
 
@@ -109,11 +116,18 @@ impl Request {
             READ => false,
             WRITE_STL => (0..6).any(past) || !MeshWords::fit(self),
             READ_STL => past(0) || past(1),
-            BUILD | PLAN | TUBE if (0..8).any(past) => true,
+            BUILD | PLAN | TUBE | BUILD_SHARE | PLAN_RECORDS if (0..8).any(past) => true,
             BUILD | PLAN => false,
+            BUILD_SHARE => self.k > 1 || PartyBytes::of(self).is_none(),
+            PLAN_RECORDS => PartyBytes::of(self).is_none(),
             TUBE => self.bytes.len() != 4 * places,
             _ => true,
         }
+    }
+
+    /// Where the job begins in the bytes of a call that is given one: behind the records of calls 7 and 8.
+    pub fn job_at(&self) -> usize {
+        PartyBytes::of(self).map_or(0, |party| self.bytes.len() - party.job.len())
     }
 
     /// How many bytes are lent, for the calls to which the answer has them.
@@ -207,6 +221,55 @@ impl MeshWords {
     }
 }
 
+/// What the bytes of calls 7 and 8 hold: both parties' shares, of which call 8 has none, the calling party's records, and the job.
+#[derive(Clone, Debug, PartialEq)]
+pub struct PartyBytes {
+    pub shares: Option<[Shares; 2]>,
+    pub records: Vec<u8>,
+    pub job: Vec<u8>,
+}
+
+impl PartyBytes {
+    /// None where the bytes end before the records do, or the call has none.
+    pub fn of(r: &Request) -> Option<PartyBytes> {
+        let (shares, rest) = match r.call {
+            BUILD_SHARE => {
+                let (shares, rest) = r.bytes.split_at_checked(2 * SHARES)?;
+                (Some(shares), rest)
+            }
+            PLAN_RECORDS => (None, &r.bytes[..]),
+            _ => return None,
+        };
+        let (m, rest) = rest.split_at_checked(4)?;
+        let m = u32::from_be_bytes(m.try_into().unwrap());
+        let (records, job) = rest.split_at_checked(m as usize)?;
+        Some(PartyBytes {
+            shares: shares.map(decode_shares),
+            records: records.to_vec(),
+            job: job.to_vec(),
+        })
+    }
+
+    pub fn encode(&self) -> Vec<u8> {
+        let shares = self.shares.iter().flatten().flatten();
+        let words = shares.flat_map(|s| [s.start as u32, s.length as u32]);
+        let mut bytes = encode_words(&words.collect::<Vec<_>>());
+        bytes.extend((self.records.len() as u32).to_be_bytes());
+        bytes.extend(&self.records);
+        bytes.extend(&self.job);
+        bytes
+    }
+}
+
+/// A party's shares in a request: twelve words.
+const SHARES: usize = 48;
+
+fn decode_shares(bytes: &[u8]) -> [Shares; 2] {
+    let words = decode_words(bytes);
+    let share = |i: usize| Share::new(words[i] as u64, words[i + 1] as u64);
+    std::array::from_fn(|party| std::array::from_fn(|i| share(12 * party + 2 * i)))
+}
+
 fn read_whole(input: &mut impl Read, out: &mut [u8]) -> io::Result<bool> {
     match input.read_exact(out) {
         Ok(()) => Ok(true),
@@ -268,13 +331,33 @@ pub fn answer(r: &Request) -> Vec<u32> {
         READ => answer_read(r),
         WRITE_STL => answer_write_stl(r),
         READ_STL => answer_read_stl(r),
+        BUILD_SHARE => answer_build_share(r),
+        PLAN_RECORDS => answer_plan_records(r),
         _ => answer_tube(r),
     }
 }
 
 fn answer_build(r: &Request) -> Vec<u32> {
     let mut b = buffers_before(r.lengths);
-    let mut out = match calls::build(&r.bytes, &mut b) {
+    let answer = calls::build(&r.bytes, &mut b);
+    built_words(answer, &b)
+}
+
+fn answer_build_share(r: &Request) -> Vec<u32> {
+    let party = PartyBytes::of(r).expect("the bytes hold the records");
+    let [first, second] = party.shares.expect("call 7 has shares");
+    let (mine, other) = match r.k {
+        0 => (first, second),
+        _ => (second, first),
+    };
+    let mut b = buffers_before(r.lengths);
+    let answer = build_share(&party.job, &party.records, &mine, &other, &mut b);
+    built_words(answer, &b)
+}
+
+/// The answer to a build: its four words, and every place of the buffers.
+fn built_words(answer: Result<Counts, Refusal>, b: &Buffers) -> Vec<u32> {
+    let mut out = match answer {
         Ok(c) => vec![0, c.k, c.v, c.t],
         Err(e) => vec![e.number, e.carried[0], e.carried[1], e.carried[2]],
     };
@@ -290,10 +373,25 @@ fn answer_build(r: &Request) -> Vec<u32> {
 }
 
 fn answer_plan(r: &Request) -> Vec<u32> {
+    planned_words(r, |words, floats| calls::plan(&r.bytes, r.k, words, floats))
+}
+
+fn answer_plan_records(r: &Request) -> Vec<u32> {
+    let party = PartyBytes::of(r).expect("the bytes hold the records");
+    planned_words(r, |words, floats| {
+        plan_records(&party.job, &party.records, r.k, words, floats)
+    })
+}
+
+/// The answer to a plan: its four words, the five words of a tube, and every place of the scratch that it was lent.
+fn planned_words(
+    r: &Request,
+    plan: impl FnOnce(&mut [u32], &mut [f32]) -> Result<(Counts, [u32; 5]), Refusal>,
+) -> Vec<u32> {
     let mut words = words_before(r.lengths[6]);
     let mut floats = floats_before(r.lengths[7]);
     let mut out = Vec::new();
-    match calls::plan(&r.bytes, r.k, &mut words, &mut floats) {
+    match plan(&mut words, &mut floats) {
         Ok((c, five)) => {
             out.extend([0, c.k, c.v, c.t]);
             out.extend(five);
@@ -381,8 +479,8 @@ fn words_after(r: &Request, first: u32) -> usize {
     let sum = |l: &[u32]| l.iter().map(|&n| n as usize).sum::<usize>();
     match r.call {
         _ if first == TOO_LONG => 0,
-        BUILD => 3 + sum(&r.lengths),
-        PLAN => 8 + sum(&r.lengths[6..]),
+        BUILD | BUILD_SHARE => 3 + sum(&r.lengths),
+        PLAN | PLAN_RECORDS => 8 + sum(&r.lengths[6..]),
         READ | WRITE_STL => 3,
         READ_STL => 3 + sum(&r.lengths[..2]),
         TUBE => first as usize,
@@ -461,12 +559,12 @@ pub fn places(r: &Request, length: usize) -> Vec<(&'static str, std::ops::Range<
                 (FACET_NORMALS, normals..length),
             ];
         }
-        BUILD => &[0, 1, 2, 3, 4, 5, 6, 7],
+        BUILD | BUILD_SHARE => &[0, 1, 2, 3, 4, 5, 6, 7],
         _ => &[6, 7],
     };
     let mut out = vec![("number", 0..1), ("counts or carried values", 1..4)];
     let mut at = 4;
-    if r.call == PLAN {
+    if [PLAN, PLAN_RECORDS].contains(&r.call) {
         out.push(("the five words", 4..9));
         at = 9;
     }

@@ -1,12 +1,16 @@
 //! Makes a request smaller for as long as it still shows a difference: atoms, segments and chains dropped, coordinates made simple,
-//! lent lengths brought down; of a PDB file lines dropped and cut, and bytes made blank; of mesh buffers tubes dropped and words made 0; of STL
+//! lent lengths brought down; of a party's call its records dropped, and shares brought down with the buffers that they stand in; of a PDB file lines dropped and cut, and bytes made blank; of mesh buffers tubes dropped and words made 0; of STL
 //! facets cut and words made 0.
 
 use std::ops::Range;
 
 use crate::{
     job::{NONE, RawJob, fix_length},
-    protocol::{BUILD, MeshWords, PLAN, READ, READ_STL, Request, TUBE, WRITE_STL},
+    parties::{RECORD, Share},
+    protocol::{
+        BUILD, BUILD_SHARE, MeshWords, PLAN, PLAN_RECORDS, PartyBytes, READ, READ_STL, Request,
+        TUBE, WRITE_STL,
+    },
     stl::{FACET, HEADER},
     tubes::{triangles_of, vertices_of},
 };
@@ -33,22 +37,37 @@ impl<F: FnMut(&Request) -> bool> Shrinker<F> {
         better
     }
 
+    /// The job's bytes: all there are, but for those of a party in front of it.
+    fn job_bytes(&self) -> &[u8] {
+        &self.best.bytes[self.best.job_at()..]
+    }
+
+    fn job(&self) -> Option<RawJob> {
+        RawJob::of(self.job_bytes())
+    }
+
+    /// Another job's bytes behind what stands in front of it, with the length field put right, or else as it is: a wrong one is part of what the
+    /// request shows.
+    fn take_job_bytes(&mut self, bytes: Vec<u8>) -> bool {
+        let mut fixed = bytes.clone();
+        fix_length(&mut fixed);
+        let front = &self.best.bytes[..self.best.job_at()];
+        let with = |bytes: &[u8]| Request {
+            bytes: [front, bytes].concat(),
+            ..self.best.clone()
+        };
+        let (plain, kept) = (with(&fixed), with(&bytes));
+        self.take(plain) || self.take(kept)
+    }
+
     fn take_job(&mut self, change: impl FnOnce(&mut RawJob)) -> bool {
-        let Some(mut job) = RawJob::of(&self.best.bytes) else {
+        let Some(mut job) = self.job() else {
             return false;
         };
         change(&mut job);
         let mut bytes = job.bytes();
-        // A wrong length field is part of what the request shows.
-        bytes[..4].copy_from_slice(&self.best.bytes[..4]);
-        let mut fixed = bytes.clone();
-        fix_length(&mut fixed);
-        let with = |bytes: Vec<u8>| Request {
-            bytes,
-            ..self.best.clone()
-        };
-        let (plain, kept) = (with(fixed), with(bytes));
-        self.take(plain) || self.take(kept)
+        bytes[..4].copy_from_slice(&self.job_bytes()[..4]);
+        self.take_job_bytes(bytes)
     }
 
     /// Drops stretches of a list, long ones first.
@@ -57,7 +76,7 @@ impl<F: FnMut(&Request) -> bool> Shrinker<F> {
         length: impl Fn(&RawJob) -> usize,
         list: impl Fn(&mut RawJob) -> &mut Vec<T>,
     ) {
-        let count = |s: &Self| RawJob::of(&s.best.bytes).map_or(0, |j| length(&j));
+        let count = |s: &Self| s.job().map_or(0, |j| length(&j));
         let mut stretch = count(self).next_power_of_two();
         while stretch > 0 {
             let mut at = 0;
@@ -83,12 +102,12 @@ impl<F: FnMut(&Request) -> bool> Shrinker<F> {
 
     /// Renumbers residues so that none is unused.
     fn close_residues(&mut self) {
-        let Some(job) = RawJob::of(&self.best.bytes) else {
+        let Some(job) = self.job() else {
             return;
         };
         for r in (0..job.residues.min(600)).rev() {
             let used = |j: &RawJob| j.atoms.iter().any(|a| a.residue == r);
-            if RawJob::of(&self.best.bytes).is_some_and(|j| !used(&j)) {
+            if self.job().is_some_and(|j| !used(&j)) {
                 self.take_job(|j| {
                     j.residues = j.residues.saturating_sub(1);
                     for a in j
@@ -104,7 +123,7 @@ impl<F: FnMut(&Request) -> bool> Shrinker<F> {
     }
 
     fn simplify_atoms(&mut self) {
-        let atoms = RawJob::of(&self.best.bytes).map_or(0, |j| j.atoms.len());
+        let atoms = self.job().map_or(0, |j| j.atoms.len());
         for i in 0..atoms {
             self.take_job(|j| j.atoms[i].serial = i as u32 + 1);
             for axis in 0..3 {
@@ -125,21 +144,15 @@ impl<F: FnMut(&Request) -> bool> Shrinker<F> {
     fn cut_bytes(&mut self) {
         for shift in (0..18).rev() {
             loop {
-                let mut bytes = self.best.bytes.clone();
+                let mut bytes = self.job_bytes().to_vec();
                 bytes.truncate(bytes.len().saturating_sub(1 << shift));
-                let mut fixed = bytes.clone();
-                fix_length(&mut fixed);
-                let with = |bytes| Request {
-                    bytes,
-                    ..self.best.clone()
-                };
-                let (plain, kept) = (with(fixed), with(bytes));
-                if !self.take(plain) && !self.take(kept) {
+                if !self.take_job_bytes(bytes) {
                     break;
                 }
             }
         }
-        for i in 0..self.best.bytes.len().min(200) {
+        let at = self.best.job_at();
+        for i in at..self.best.bytes.len().min(at + 200) {
             let mut r = self.best.clone();
             r.bytes[i] = 0;
             self.take(r);
@@ -344,6 +357,103 @@ impl<F: FnMut(&Request) -> bool> Shrinker<F> {
         self.clear(0..self.best.bytes.len(), 1);
     }
 
+    /// A party's call with this change in its bytes and lengths.
+    fn take_party(&mut self, change: impl FnOnce(&mut PartyBytes, &mut [u32; 8])) -> bool {
+        let Some(mut party) = PartyBytes::of(&self.best) else {
+            return false;
+        };
+        let mut r = self.best.clone();
+        change(&mut party, &mut r.lengths);
+        r.bytes = party.encode();
+        self.take(r)
+    }
+
+    /// Records dropped in stretches, long ones first, as long as they are few enough to leave tries for the rest; then bytes that are no whole record,
+    /// and bytes made 0.
+    fn drop_records(&mut self) {
+        let bytes = |s: &Self| PartyBytes::of(&s.best).map_or(0, |p| p.records.len());
+        let mut stretch = (bytes(self) / RECORD).next_power_of_two() * RECORD;
+        while stretch >= RECORD && bytes(self) / stretch <= 256 {
+            let mut at = 0;
+            while at < bytes(self) {
+                let end = (at + stretch).min(bytes(self));
+                if !self.take_party(|p, _| drop(p.records.drain(at..end))) {
+                    at += stretch;
+                }
+            }
+            stretch = stretch / RECORD / 2 * RECORD;
+        }
+        while self.take_party(|p, _| p.records.truncate(p.records.len().saturating_sub(1))) {}
+        for i in 0..bytes(self).min(200) {
+            self.take_party(|p, _| p.records[i] = 0);
+        }
+    }
+
+    /// Both shares of a buffer brought down: each made empty or moved to the front, then its start and its length, the buffer with it or not.
+    fn lower_shares(&mut self, buffer: usize) {
+        for party in 0..2 {
+            self.take_share(party, buffer, |s| *s = Share::default());
+            self.take_share(party, buffer, |s| s.start = 0);
+        }
+        for less in (0..32).rev().map(|shift| 1 << shift) {
+            for party in 0..2 {
+                self.take_places(party, buffer, less);
+                self.take_share(party, buffer, |s| s.length = s.length.saturating_sub(less));
+                self.take_share(party, buffer, |s| s.start = s.start.saturating_sub(less));
+            }
+        }
+    }
+
+    fn take_share(&mut self, party: usize, buffer: usize, change: impl FnOnce(&mut Share)) -> bool {
+        self.take_party(|p, _| {
+            if let Some(shares) = &mut p.shares {
+                change(&mut shares[party][buffer]);
+            }
+        })
+    }
+
+    /// So many places taken out of a share and of its buffer; a share behind it moves up.
+    fn take_places(&mut self, party: usize, buffer: usize, less: u64) -> bool {
+        self.take_party(|p, lengths| {
+            let Some([first, second]) = &mut p.shares else {
+                return;
+            };
+            let (own, other) = match party {
+                0 => (&mut first[buffer], &mut second[buffer]),
+                _ => (&mut second[buffer], &mut first[buffer]),
+            };
+            own.length = own.length.saturating_sub(less);
+            if other.start > own.start {
+                other.start = other.start.saturating_sub(less);
+            }
+            lengths[buffer] = lengths[buffer].saturating_sub(less as u32);
+        })
+    }
+
+    fn shrink_party(&mut self) {
+        self.drop_records();
+        self.shrink_job();
+        (0..6).for_each(|buffer| self.lower_shares(buffer));
+        self.lower_lengths_of(&[0, 1, 2, 3, 4, 5, 6, 7]);
+    }
+
+    fn shrink_job(&mut self) {
+        if self.job().is_none() {
+            self.cut_bytes();
+        }
+        loop {
+            let before = self.best.clone();
+            self.drop_from(|j| j.atoms.len(), |j| &mut j.atoms);
+            self.drop_from(|j| j.segments.len(), |j| &mut j.segments);
+            while self.drop_last_chain() {}
+            self.close_residues();
+            self.simplify_atoms();
+            if self.best == before {
+                break;
+            }
+        }
+    }
+
     fn lower_lengths(&mut self) {
         self.lower_lengths_of(&[0, 1, 2, 3, 4, 5, 6, 7]);
     }
@@ -406,42 +516,21 @@ pub fn shrink(r: &Request, shows: impl FnMut(&Request) -> bool) -> Request {
         tries: 0,
     };
     match r.call {
-        BUILD | PLAN => {}
-        TUBE => {
-            s.cut_places();
-            return s.best;
+        BUILD | PLAN => {
+            s.shrink_job();
+            s.lower_lengths();
         }
+        BUILD_SHARE | PLAN_RECORDS => s.shrink_party(),
+        TUBE => s.cut_places(),
         READ => {
             s.drop_lines();
             s.lower_lengths();
             s.simplify_lines();
             s.drop_lines();
-            return s.best;
         }
-        WRITE_STL => {
-            s.shrink_mesh();
-            return s.best;
-        }
-        READ_STL => {
-            s.shrink_stl();
-            return s.best;
-        }
-        _ => return s.best,
+        WRITE_STL => s.shrink_mesh(),
+        READ_STL => s.shrink_stl(),
+        _ => {}
     }
-    if RawJob::of(&r.bytes).is_none() {
-        s.cut_bytes();
-    }
-    loop {
-        let before = s.best.clone();
-        s.drop_from(|j| j.atoms.len(), |j| &mut j.atoms);
-        s.drop_from(|j| j.segments.len(), |j| &mut j.segments);
-        while s.drop_last_chain() {}
-        s.close_residues();
-        s.simplify_atoms();
-        if s.best == before {
-            break;
-        }
-    }
-    s.lower_lengths();
     s.best
 }

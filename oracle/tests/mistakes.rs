@@ -11,12 +11,13 @@ use oracle::{
 const SEED: u64 = 7;
 const WITHIN: u64 = 15_000;
 
-/// The kind of the requests that must catch this mistake: jobs and files, but for those of 02 §4, and for the one mistake that shows only in a box
-/// with zeros of both signs to choose from, which those jobs do not have.
+/// The kind of the requests that must catch this mistake: jobs and files, but for those of 02 §4 and §5, and for the one mistake that shows only in
+/// a box with zeros of both signs to choose from, which those jobs do not have.
 fn kind_that_shows(m: Mutation) -> Kind {
     match m {
         Mutation::BoxLaterOfEquals => Kind::Boxes,
         m if m.name().starts_with("Stl") => Kind::Stl,
+        m if m.name().starts_with("Party") => Kind::Parties,
         _ => Kind::Both,
     }
 }
@@ -71,17 +72,17 @@ fn no_mistake_is_in_force_by_itself() {
     assert_eq!(answer(&r), before);
 }
 
-/// A mistake gives a wrong answer, and never none: whatever it takes for consistent is written, whatever it takes for a file is listed.
+/// A mistake gives a wrong answer, and never none: whatever it takes for consistent is written, whatever it takes for a file is listed, and whatever
+/// it takes for a share is built in.
 #[test]
-fn mistakes_about_stl_end_in_answers() {
-    let requests: Vec<_> = (0..300).map(|i| Kind::Stl.request(SEED, i)).collect();
-    let about = |m: &&Mutation| m.name().starts_with("Stl");
-    for &m in Mutation::ALL.iter().filter(about) {
-        let differ = |r: &&Request| wrong::with(Some(m), || answer(r)) != answer(r);
-        println!(
-            "{}: {} of 300",
-            m.name(),
-            requests.iter().filter(differ).count()
-        );
+fn mistakes_end_in_answers() {
+    for (prefix, kind, count) in [("Stl", Kind::Stl, 300), ("Party", Kind::Parties, 1000)] {
+        let requests: Vec<_> = (0..count).map(|i| kind.request(SEED, i)).collect();
+        let about = |m: &&Mutation| m.name().starts_with(prefix);
+        for &m in Mutation::ALL.iter().filter(about) {
+            let differ = |r: &&Request| wrong::with(Some(m), || answer(r)) != answer(r);
+            let shown = requests.iter().filter(differ).count();
+            println!("{}: {shown} of {count}", m.name());
+        }
     }
 }
