@@ -4,6 +4,7 @@
 
 use crate::{
     calls::{list, needs},
+    cases::straight,
     generator::{bad_field, damage},
     job::{RawJob, RawSegment, decode, record_bytes},
     jobs::{job, segment, small, with_vertices},
@@ -354,10 +355,11 @@ const MANY: [(usize, bool); 6] = [
     (RECORD * MAX_RECORDS + 1, false),
 ];
 
-/// Records most of which have no atoms, so that few tubes come of them, on a small job with a few marks and nothing else wrong.
+/// Records most of which have no atoms, so that few tubes come of them, on a straight chain with a few marks and nothing else wrong.
 fn with_many(rng: &mut Rng, turn: u64) -> Request {
     let (bytes, bad) = MANY[turn as usize % MANY.len()];
-    let job = small(rng);
+    let mut job = straight(rng.between(2, 6) as usize);
+    job.segments = marks(rng, &job);
     let marked = with_marks(rng, job);
     let mut scene = plain(rng, &marked);
     let party = rng.below(2) as usize;
@@ -418,7 +420,7 @@ pub fn request(seed: u64, index: u64) -> Request {
     } else {
         scene.plan(rng, party)
     };
-    if rng.below(60) == 0 {
+    if rng.below(40) == 0 {
         return passed_over(rng, r);
     }
     r

@@ -3,11 +3,16 @@
 use oracle::{
     cases::{build_request, plan_request, tube_request, two_residues},
     differences::{Count, Differences, PARTS, Recording, differences},
-    protocol::{READ, READ_STL, Request, WRITE_STL, answer, encode_answer},
+    parties::{Share, Shares},
+    protocol::{
+        BUILD_SHARE, PLAN_RECORDS, PartyBytes, READ, READ_STL, Request, WRITE_STL, answer,
+        encode_answer,
+    },
 };
 
 /// One request of each call. The PDB file has no line that is read, so its job is the 13 bytes of the empty one, in 20 lent. The mesh is that of no
-/// tubes, in 90 lent bytes, and its file has no facet, for lists of 9 and 3 floats.
+/// tubes, in 90 lent bytes, and its file has no facet, for lists of 9 and 3 floats. The parties have the two residues and no room: one place of each
+/// buffer, and no share of it.
 fn requests() -> Vec<Request> {
     let read = Request {
         call: READ,
@@ -34,7 +39,23 @@ fn requests() -> Vec<Request> {
         read,
         write_stl,
         read_stl,
+        party_request(BUILD_SHARE, Some([[Share::default(); 6]; 2])),
+        party_request(PLAN_RECORDS, None),
     ]
+}
+
+fn party_request(call: u8, shares: Option<[Shares; 2]>) -> Request {
+    let party = PartyBytes {
+        shares,
+        records: Vec::new(),
+        job: two_residues().bytes(),
+    };
+    Request {
+        call,
+        lengths: [1, 1, 1, 1, 1, 1, 16, 64],
+        k: 0,
+        bytes: party.encode(),
+    }
 }
 
 fn recording() -> Recording {
@@ -53,6 +74,8 @@ const TUBE_WORDS: usize = 1 + 432;
 const READ_AT: usize = 4 * (BUILD_WORDS + PLAN_WORDS + TUBE_WORDS);
 const WRITE_STL_AT: usize = READ_AT + 4 * 4 + 20;
 const READ_STL_AT: usize = WRITE_STL_AT + 4 * 4 + 90;
+const SHARE_AT: usize = READ_STL_AT + 4 * (4 + 9 + 3);
+const RECORDS_AT: usize = SHARE_AT + 4 * (4 + 6 + 16 + 64);
 
 /// What differs when one bit of this byte of the answers does.
 fn with_bit(at: usize) -> Differences {
@@ -79,17 +102,20 @@ fn nothing_differs_from_itself() {
             .all(|c| *c == Count { all: 1, differ: 0 })
     );
     // Every word is in some part, lent bytes as one each: the whole file.
-    assert_eq!(recording().answers.len(), READ_STL_AT + 4 * (4 + 9 + 3));
+    assert_eq!(
+        recording().answers.len(),
+        RECORDS_AT + 4 * (4 + 5 + 16 + 64)
+    );
     let all: [u64; 14] = [
-        4 + 9 + 1 + 4 + 4 + 4,
-        222,
-        222,
-        74,
-        432,
-        5,
-        6,
-        32,
-        128,
+        4 + 9 + 1 + 4 + 4 + 4 + 4 + 9,
+        222 + 1,
+        222 + 1,
+        74 + 1,
+        432 + 1,
+        5 + 1,
+        6 + 1,
+        64,
+        256,
         432,
         20,
         90,
@@ -103,13 +129,13 @@ fn nothing_differs_from_itself() {
 fn a_changed_box_word_is_counted_under_boxes_and_nowhere_else() {
     let found = with_bit(4 * (4 + 222 + 222 + 74 + 432 + 5));
     assert_eq!(counted(&found), ["boxes"]);
-    assert_eq!(found.parts[6], Count { all: 6, differ: 1 });
+    assert_eq!(found.parts[6], Count { all: 7, differ: 1 });
     assert_eq!(found.answers[&1], Count { all: 1, differ: 1 });
-    assert!((2..=6).all(|call| found.answers[&call].differ == 0));
+    assert!((2..=8).all(|call| found.answers[&call].differ == 0));
     assert!(found.unlike.is_empty());
     let text = found.text();
     assert!(
-        text.contains("\nboxes                         6          1\n"),
+        text.contains("\nboxes                         7          1\n"),
         "{text}"
     );
     assert!(
@@ -155,7 +181,25 @@ fn each_part_is_counted_under_its_name() {
         (READ_STL_AT + 16, "corners of call 6"),
         (READ_STL_AT + 4 * 13 - 1, "corners of call 6"),
         (READ_STL_AT + 4 * 13, "normals of call 6"),
-        (recording().answers.len() - 1, "normals of call 6"),
+        (SHARE_AT - 1, "normals of call 6"),
+    ];
+    for (at, part) in bytes {
+        assert_eq!(counted(&with_bit(at)), [part], "byte {at}");
+    }
+}
+
+/// The answers to calls 7 and 8 have the parts of those to 1 and 2.
+#[test]
+fn the_parts_of_the_parties_are_counted_with_the_others() {
+    let bytes = [
+        (SHARE_AT + 4, "the answers' own"),
+        (SHARE_AT + 4 * 4, "positions"),
+        (SHARE_AT + 4 * 9, "boxes"),
+        (SHARE_AT + 4 * 10, "scratch words"),
+        (RECORDS_AT - 1, "scratch floats"),
+        (RECORDS_AT + 4 * 8, "the answers' own"),
+        (RECORDS_AT + 4 * 9, "scratch words"),
+        (recording().answers.len() - 1, "scratch floats"),
     ];
     for (at, part) in bytes {
         assert_eq!(counted(&with_bit(at)), [part], "byte {at}");
@@ -186,8 +230,8 @@ fn another_request_is_told() {
     };
     assert!(told(|r| r[2].k = 1).contains("request 2 "));
     assert!(told(|r| r[0].bytes[0] = 1).contains("request 0 "));
-    assert!(told(|r| drop(r.pop())).contains("request 5 "));
-    assert!(told(|r| r.push(r[0].clone())).contains("request 6 "));
+    assert!(told(|r| drop(r.pop())).contains("request 7 "));
+    assert!(told(|r| r.push(r[0].clone())).contains("request 8 "));
 }
 
 /// Its words stand in other places, or mean something else, and are not counted.
@@ -196,7 +240,8 @@ fn an_answer_of_another_length_or_kind_is_told() {
     // Number 1 in the place of a mesh.
     let found = with_bit(3);
     assert_eq!(found.unlike, [(0, [0, 1])]);
-    assert_eq!(found.parts[6].all, 0);
+    // The boxes are those of the party's build alone.
+    assert_eq!(found.parts[6].all, 1);
     assert_eq!(counted(&found), [""; 0]);
     assert_eq!(found.answers[&1], Count { all: 1, differ: 1 });
     assert!(
@@ -220,7 +265,7 @@ fn answers_that_end_early_or_late_are_told() {
     cut.answers.pop();
     let why = differences(&recording(), &cut).expect_err("no whole answer");
     assert!(
-        why.starts_with("NEW has no whole answer to request 5 "),
+        why.starts_with("NEW has no whole answer to request 7 "),
         "{why}"
     );
     let mut more = recording();

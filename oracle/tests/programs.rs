@@ -55,6 +55,7 @@ fn the_oracle_equals_itself() {
         ("orders", "500"),
         ("boxes", "500"),
         ("stl", "2000"),
+        ("parties", "2000"),
     ] {
         let output = compare(kind, &[ORACLE, "answer"], jobs, &folder("itself"));
         let text = String::from_utf8(output.stdout).unwrap();
@@ -162,9 +163,32 @@ fn a_wrong_reader_of_stl_is_caught_and_its_file_shrunk() {
 }
 
 #[test]
+fn a_wrong_party_is_caught_and_its_shares_shrunk() {
+    let text = difference_of("parties", "PartyTouchingRefused", &folder("wrong-touch"));
+    assert!(text.contains("expected 00000000 (0,"), "{text}");
+    // Two shares of one place, the second behind the first, in one buffer; nothing in the others, no record and no atom.
+    assert_eq!(text.matches(" 0 + 1").count(), 1, "{text}");
+    assert_eq!(text.matches(" 1 + 1").count(), 1, "{text}");
+    assert_eq!(text.matches(" 0 + 0").count(), 10, "{text}");
+    assert!(text.contains("\n0 bytes of records\n"), "{text}");
+    assert!(!text.contains("atom 0:"), "{text}");
+    let text = difference_of("parties", "PartyWrittenAtZero", &folder("wrong-place"));
+    assert!(text.contains("0 + 222") && text.contains("0 + 0"), "{text}");
+    assert!(
+        text.contains("atom 1:") && !text.contains("atom 2:"),
+        "{text}"
+    );
+    let text = difference_of("parties", "PartyKindOfFirst", &folder("wrong-kind"));
+    assert!(
+        text.contains("record 1:") && !text.contains("record 2:"),
+        "{text}"
+    );
+}
+
+#[test]
 fn a_program_that_ends_early_is_caught() {
     for program in [&["true"][..], &["echo", "no"]] {
-        for kind in ["both", "stl"] {
+        for kind in ["both", "stl", "parties"] {
             let output = compare(kind, program, "50", &folder("early"));
             assert_eq!(output.status.code(), Some(1), "{program:?}");
         }
@@ -272,6 +296,7 @@ fn bad_command_lines() {
         &["compare", "--jobs", "many", "--", "true"],
         &["compare", "--jobs", "--", "true"],
         &["compare", "--kind", "tubes", "--", "true"],
+        &["compare", "--kind", "party", "--", "true"],
         &["read-pdb", "no-such-file-at-all"],
         &["read-pdb", "a", "b"],
         &["answer", "--wrong", "Nothing"],
