@@ -88,7 +88,11 @@ fn check_shares(mine: &Shares, other: &Shares, b: &Buffers) -> Result<(), Refusa
     } else {
         6
     };
-    let refused = (0..asked).find(|&i| bad(b.outputs()[i], mine[i], other[i]));
+    let mut lengths = b.outputs();
+    if wrong(Mutation::PartyNormalsInPositions) {
+        lengths[1] = lengths[0];
+    }
+    let refused = (0..asked).find(|&i| bad(lengths[i], mine[i], other[i]));
     let odd = wrong(Mutation::PartyOddRefused) && !mine[0].start.is_multiple_of(3);
     match refused.or(odd.then_some(0)) {
         Some(i) if wrong(Mutation::PartyTwentyCarries) => Err(Refusal::new(20, i as u32)),
@@ -244,6 +248,9 @@ fn placed(mine: &Shares, other: &Shares, b: &Buffers) -> Shares {
     }
     if wrong(Mutation::PartyNormalsAsPositions) {
         shares[1].start = shares[0].start;
+    }
+    if wrong(Mutation::PartyNormalsAsLong) {
+        shares[1].length = shares[0].length;
     }
     if wrong(Mutation::PartyBoxesAsTubes) {
         shares[5].start = shares[4].start;
