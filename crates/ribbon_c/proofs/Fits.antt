@@ -32,7 +32,7 @@ use Rattle.promises.specs.Meshes.{tubesIn}
 use Rattle.promises.proofs.Tubes.{AllLong, list-long-of, long-sums}
 use Rattle.promises.proofs.Checks.{passes-by}
 use Rattle.promises.proofs.Demands.{build-determined, plan-determined, past-checks, plan-past-checks, accepted, plan-accepted, room-means}
-use Rattle.ribbon_c.specs.Words.{wordOf, wordsOf, BuildsWords, PlansWords, ReadsWords, WritesStlWords, ReadsStlWords}
+use Rattle.ribbon_c.specs.Words.{wordOf, wordsOf, BuildsWords, PlansWords, ReadsWords, WritesStlWords, ReadsStlWords, BuildsShareWords, PlansRecordsWords}
 
 -- ---- one answer, and one content of every buffer
 
@@ -60,6 +60,23 @@ pub read-stl-words-determined : {s : List ℕ} {l l′ l₂ : Lists} {a d : List
     → ReadsStlWords s l a l′ → ReadsStlWords s l d l₂ → (a ≡ d) × (l′ ≡ l₂)
 read-stl-words-determined A D =
     (A .words ∙ ap wordsOf (A .promise .answer ∙ sym (D .promise .answer)) ∙ sym (D .words), list-determined (A .promise) (D .promise) .1)
+
+pub share-words-determined : {s q n : List ℕ} {b b' b'' : Buffers} {a d : List ℕ}
+    → BuildsShareWords s q n b a b' → BuildsShareWords s q n b d b'' → (a ≡ d) × (b' ≡ b'')
+share-words-determined {b' = b'} {b'' = b''} A D =
+    let outs = A .promise .outputs ∙ sym (D .promise .outputs) in
+    let scratch = A .promise .scratch ∙ sym (D .promise .scratch) in
+    (A .words ∙ ap wordsOf (A .promise .answer ∙ sym (D .promise .answer)) ∙ sym (D .words), both b' b'' outs scratch)
+  where
+    both : (x y : Buffers) → x .outs ≡ y .outs → x .scratch ≡ y .scratch → x ≡ y
+    both x y e f = ap (λ (o : Outs). record { outs = o; scratch = x .scratch }) e ∙ ap (λ (c : Scratch). record { outs = y .outs; scratch = c }) f
+
+pub records-words-determined : {s q : List ℕ} {k : ℕ} {c c' c'' : Scratch} {a d : List ℕ}
+    → PlansRecordsWords s q k c a c' → PlansRecordsWords s q k c d c'' → (a ≡ d) × (c' ≡ c'')
+records-words-determined A D = (
+  A .words ∙ ap wordsOf (A .promise .answer ∙ sym (D .promise .answer)) ∙ sym (D .words),
+  A .promise .scratch ∙ sym (D .promise .scratch),
+)
 
 -- ---- from the reader to the builder: a job that was read is refused by no check before 9
 

@@ -4,9 +4,13 @@ use job::Refusal;
 use pdb_reader::Read;
 use promises::Built;
 use promises::Planned;
+use shares::Share;
+use shares::Shares;
 use stl_reader::Listed;
 use stl_writer::Wrote;
 ghost use mathlib.Core.Path.{_≡_};
+ghost use Prim.Native.Nat.{_+_, _≤_};
+ghost use lib.ListN.{length};
 ghost use Rattle.job.specs.Refusals.{refusalNumbers};
 ghost use Rattle.buffers.specs.Outs.{held, holds};
 ghost use Rattle.room.specs.Room.{buffers, scratch};
@@ -16,6 +20,7 @@ ghost use Rattle.stl_writer.specs.Call.{wroteNumbers};
 ghost use Rattle.stl_reader.specs.Call.{lists, listedNumbers};
 ghost use Rattle.tube_call.specs.Part.{PartFor};
 ghost use Rattle.ribbon_c.specs.Words.{wordOf, wordsOf, BuildsWords, PlansWords, ReadsWords, WritesStlWords, ReadsStlWords};
+ghost use Rattle.ribbon_c.specs.Words.{shareAt, sharesAt, BuildsShareWords, PlansRecordsWords};
 
 fn word(n: usize) -> u32
     ensures { λ r. ⌜ r ≡ wordOf n ⌝ }
@@ -200,4 +205,86 @@ pub extern "C" fn ribbon_read_stl(
 {
     let a = stl_reader::read_stl(file, corners, normals);
     *answer = listed_words(a);
+}
+
+fn share_at(n: &[usize], at: usize) -> Share
+    requires { ⌜ at + 2 ≤ length (now n) ⌝ }
+    ensures { λ r. ⌜ r ≡ shareAt (now (n .entry)) at ⌝ }
+{
+    Share {
+        start: n[at],
+        len: n[at + 1],
+    }
+}
+
+// A party's shares: two numbers, start and length, of each buffer.
+fn shares_of(n: &[usize], at: usize) -> Shares
+    requires { ⌜ at + 12 ≤ length (now n) ⌝ }
+    ensures { λ r. ⌜ r ≡ sharesAt (now (n .entry)) at ⌝ }
+{
+    Shares {
+        positions: share_at(n, at),
+        normals: share_at(n, at + 2),
+        tags: share_at(n, at + 4),
+        triangles: share_at(n, at + 6),
+        tubes: share_at(n, at + 8),
+        boxes: share_at(n, at + 10),
+    }
+}
+
+// As ribbon_build, of a shared job with the caller's records, in the caller's shares of the whole buffers. The twelve numbers of its shares come first, then
+// those of the other's.
+#[no_mangle]
+pub extern "C" fn ribbon_build_share(
+    job: &[u8],
+    records: &[u8],
+    shares: &[usize; 24],
+    positions: &mut [f32],
+    normals: &mut [f32],
+    tags: &mut [u32],
+    triangles: &mut [u32],
+    tubes: &mut [u32],
+    boxes: &mut [f32],
+    words: &mut [u32],
+    floats: &mut [f32],
+    answer: &mut [u32; 4],
+)
+    ensures { λ _. ⌜ BuildsShareWords (now (job .entry)) (now (records .entry)) (now (shares .entry))
+        (buffers (held positions normals tags triangles tubes boxes) (now (words .entry)) (now (floats .entry))) (now (answer .exit))
+        (buffers (holds positions normals tags triangles tubes boxes) (now (words .exit)) (now (floats .exit))) ⌝ }
+{
+    let mine = shares_of(shares, 0);
+    let other = shares_of(shares, 12);
+    let a = parties::build_share(
+        job,
+        records,
+        mine,
+        other,
+        positions,
+        normals,
+        tags,
+        triangles,
+        tubes,
+        boxes,
+        words,
+        floats,
+    );
+    *answer = built_words(a);
+}
+
+// As ribbon_plan, of a shared job with the caller's records.
+#[no_mangle]
+pub extern "C" fn ribbon_plan_records(
+    job: &[u8],
+    records: &[u8],
+    tube: usize,
+    words: &mut [u32],
+    floats: &mut [f32],
+    answer: &mut [u32; 9],
+)
+    ensures { λ _. ⌜ PlansRecordsWords (now (job .entry)) (now (records .entry)) tube (scratch (now (words .entry)) (now (floats .entry))) (now (answer .exit))
+        (scratch (now (words .exit)) (now (floats .exit))) ⌝ }
+{
+    let a = parties::plan_records(job, records, tube, words, floats);
+    *answer = planned_words(a);
 }
