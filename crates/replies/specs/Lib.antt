@@ -1,1 +1,1 @@
-pub mod Own
+pub mod Sized

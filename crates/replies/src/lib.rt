@@ -2,64 +2,23 @@
 use numbers::words::get_words;
 use stream::patterns::fill_bytes;
 use stream::patterns::fill_floats;
+use stream::patterns::fill_mesh;
 use stream::patterns::fill_words;
 use stream::requests::Lengths;
 use stream::requests::Request;
 use stream::sink::Sink;
 use stream::sink::send_bytes;
-use stream::sink::send_floats;
+use stream::sink::send_four;
+use stream::sink::send_mesh;
+use stream::sink::send_nine;
+use stream::sink::send_scratch;
 use stream::sink::send_words;
 ghost use mathlib.Core.Path.{_≡_};
 ghost use Prim.Native.Nat.{_+_, _*_};
 ghost use lib.ListN.{length};
-ghost use Rattle.replies.specs.Own.{own, Sized};
-ghost use Rattle.stream.specs.Requests.{Within};
+ghost use Rattle.replies.specs.Sized.{Sized};
+ghost use Rattle.stream.specs.Requests.{Within, own};
 ghost use Rattle.stream.specs.Sinks.{SinkReady};
-
-fn fill_mesh(
-    positions: &mut [f32],
-    normals: &mut [f32],
-    tags: &mut [u32],
-    triangles: &mut [u32],
-    tubes: &mut [u32],
-    boxes: &mut [f32],
-) {
-    fill_floats(positions);
-    fill_floats(normals);
-    fill_words(tags);
-    fill_words(triangles);
-    fill_words(tubes);
-    fill_floats(boxes);
-}
-
-fn send_mesh(
-    s: Sink,
-    out: &mut [u8],
-    positions: &[f32],
-    normals: &[f32],
-    tags: &[u32],
-    triangles: &[u32],
-    tubes: &[u32],
-    boxes: &[f32],
-) -> Sink
-    requires { ⌜ SinkReady s (length (now out)) ⌝ }
-    ensures { λ r. ⌜ SinkReady r (length (now (out .entry))) ⌝ }
-{
-    let a = send_floats(s, out, positions);
-    let b = send_floats(a, out, normals);
-    let c = send_words(b, out, tags);
-    let d = send_words(c, out, triangles);
-    let e = send_words(d, out, tubes);
-    send_floats(e, out, boxes)
-}
-
-fn send_scratch(s: Sink, out: &mut [u8], words: &[u32], floats: &[f32]) -> Sink
-    requires { ⌜ SinkReady s (length (now out)) ⌝ }
-    ensures { λ r. ⌜ SinkReady r (length (now (out .entry))) ⌝ }
-{
-    let t = send_words(s, out, words);
-    send_floats(t, out, floats)
-}
 
 // The buffers as they are before every call, and the call.
 fn run_build(
@@ -89,20 +48,6 @@ fn run_build(
         floats,
         answer,
     );
-}
-
-fn send_four(s: Sink, out: &mut [u8], answer: &[u32; 4]) -> Sink
-    requires { ⌜ SinkReady s (length (now out)) ⌝ }
-    ensures { λ r. ⌜ SinkReady r (length (now (out .entry))) ⌝ }
-{
-    send_words(s, out, answer)
-}
-
-fn send_nine(s: Sink, out: &mut [u8], answer: &[u32; 9]) -> Sink
-    requires { ⌜ SinkReady s (length (now out)) ⌝ }
-    ensures { λ r. ⌜ SinkReady r (length (now (out .entry))) ⌝ }
-{
-    send_words(s, out, answer)
 }
 
 fn serve_build(

@@ -11,10 +11,9 @@ use stream::sink::send_words;
 ghost use mathlib.Core.Path.{_≡_};
 ghost use Prim.Native.Nat.{_+_, _<_};
 ghost use lib.ListN.{length};
-ghost use Rattle.replies.specs.Own.{own};
 ghost use Rattle.serve.specs.Heads.{Bounded};
 ghost use Rattle.stl_replies.specs.Mesh.{meshOf};
-ghost use Rattle.stream.specs.Requests.{Serves, ServesMesh, SmallLengths};
+ghost use Rattle.stream.specs.Requests.{own, Serves, ServesMesh, SmallLengths};
 ghost use Rattle.stream.specs.Sinks.{SinkReady};
 
 // Why no more requests are answered: the input ended behind a request; it ended within one; a read failed; or an answer did not go out whole or is not as recorded.

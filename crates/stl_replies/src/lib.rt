@@ -9,7 +9,7 @@ use stream::requests::Lengths;
 use stream::sink::Sink;
 use stream::sink::send_bytes;
 use stream::sink::send_floats;
-use stream::sink::send_words;
+use stream::sink::send_four;
 ghost use lib.ListN.{length};
 ghost use Rattle.stl_replies.specs.Mesh.{meshOf, MeshBytes};
 ghost use Rattle.stream.specs.Requests.{Within, stlLent};
@@ -39,13 +39,6 @@ fn load_mesh(
     get_words(b, a3, triangles);
     get_words(b, a4, tubes);
     get_floats(b, a5, boxes);
-}
-
-fn send_four(s: Sink, out: &mut [u8], answer: &[u32; 4]) -> Sink
-    requires { ⌜ SinkReady s (length (now out)) ⌝ }
-    ensures { λ r. ⌜ SinkReady r (length (now (out .entry))) ⌝ }
-{
-    send_words(s, out, answer)
 }
 
 // A request to write, with exactly the places that it is lent.

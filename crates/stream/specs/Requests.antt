@@ -39,6 +39,10 @@ pub record Within (lent own : Lengths) : Type 0 where
   pub words : lent .words ≤ own .words
   pub floats : lent .floats ≤ own .floats
 
+-- the lengths of a program's own arrays, of which a request is lent parts
+abbrev pub own : ℕ → ℕ → ℕ → ℕ → ℕ → ℕ → ℕ → ℕ → Lengths
+own p n t c k b w f = record { positions = p; normals = n; tags = t; triangles = c; tubes = k; boxes = b; words = w; floats = f }
+
 -- build and plan take any bytes, tube the bytes of its two buffers
 abbrev pub known : Request → Bool
 known r = eqb (r .call) 1 || eqb (r .call) 2 || (eqb (r .call) 3 && eqb (r .bytes) (4 * (r .lent .tubes + r .lent .triangles)))

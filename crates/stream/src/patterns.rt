@@ -34,3 +34,19 @@ pub fn fill_floats(f: &mut [f32])
         i += 1;
     }
 }
+
+pub fn fill_mesh(
+    positions: &mut [f32],
+    normals: &mut [f32],
+    tags: &mut [u32],
+    triangles: &mut [u32],
+    tubes: &mut [u32],
+    boxes: &mut [f32],
+) {
+    fill_floats(positions);
+    fill_floats(normals);
+    fill_words(tags);
+    fill_words(triangles);
+    fill_words(tubes);
+    fill_floats(boxes);
+}

@@ -140,3 +140,48 @@ pub fn send_bytes(s: Sink, out: &mut [u8], b: &[u8]) -> Sink
     }
     t
 }
+
+// The first four words of an answer: the refusal's number or 0, and three more.
+pub fn send_four(s: Sink, out: &mut [u8], answer: &[u32; 4]) -> Sink
+    requires { ⌜ SinkReady s (length (now out)) ⌝ }
+    ensures { λ r. ⌜ SinkReady r (length (now (out .entry))) ⌝ }
+{
+    send_words(s, out, answer)
+}
+
+// The same four, and a tube's five.
+pub fn send_nine(s: Sink, out: &mut [u8], answer: &[u32; 9]) -> Sink
+    requires { ⌜ SinkReady s (length (now out)) ⌝ }
+    ensures { λ r. ⌜ SinkReady r (length (now (out .entry))) ⌝ }
+{
+    send_words(s, out, answer)
+}
+
+pub fn send_mesh(
+    s: Sink,
+    out: &mut [u8],
+    positions: &[f32],
+    normals: &[f32],
+    tags: &[u32],
+    triangles: &[u32],
+    tubes: &[u32],
+    boxes: &[f32],
+) -> Sink
+    requires { ⌜ SinkReady s (length (now out)) ⌝ }
+    ensures { λ r. ⌜ SinkReady r (length (now (out .entry))) ⌝ }
+{
+    let a = send_floats(s, out, positions);
+    let b = send_floats(a, out, normals);
+    let c = send_words(b, out, tags);
+    let d = send_words(c, out, triangles);
+    let e = send_words(d, out, tubes);
+    send_floats(e, out, boxes)
+}
+
+pub fn send_scratch(s: Sink, out: &mut [u8], words: &[u32], floats: &[f32]) -> Sink
+    requires { ⌜ SinkReady s (length (now out)) ⌝ }
+    ensures { λ r. ⌜ SinkReady r (length (now (out .entry))) ⌝ }
+{
+    let t = send_words(s, out, words);
+    send_floats(t, out, floats)
+}

@@ -1,8 +1,8 @@
 use mathlib.Core.Path.{_∙_}
 use native.Mathlib.Omega.{arith}
 use borrow.Author.Needs.{needs}
-use Rattle.replies.proofs.send_mesh.Statement.{statement}
-use Rattle.replies.proofs.send_mesh.Tie as tie
+use Rattle.stream.proofs.sink.send_mesh.Statement.{statement}
+use Rattle.stream.proofs.sink.send_mesh.Tie as tie
 
 same-length : tie.Need-same-length
 same-length c = c .before .out6 .given ∙ c .before .before .before .before .before .out5 .given ∙ c .before .before .before .before .before .before .before .before .before .out4 .given ∙ c .before .before .before .before .before .before .before .before .before .before .before .before .before .out3 .given ∙ c .before .before .before .before .before .before .before .before .before .before .before .before .before .before .before .before .before .out2 .given ∙ c .before .before .before .before .before .before .before .before .before .before .before .before .before .before .before .before .before .before .before .before .before .out .given
