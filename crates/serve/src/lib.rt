@@ -3,6 +3,7 @@ use files::Filled;
 use stream::requests::Lengths;
 use stream::requests::Request;
 use stream::requests::is_mesh_served;
+use stream::requests::is_party;
 use stream::requests::is_served;
 use stream::requests::request_of;
 use stream::sink::Sink;
@@ -11,9 +12,9 @@ use stream::sink::send_words;
 ghost use mathlib.Core.Path.{_≡_};
 ghost use Prim.Native.Nat.{_+_, _<_};
 ghost use lib.ListN.{length};
-ghost use Rattle.serve.specs.Heads.{Bounded};
+ghost use Rattle.serve.specs.Heads.{Bounded, Answerable};
 ghost use Rattle.stl_replies.specs.Mesh.{meshOf};
-ghost use Rattle.stream.specs.Requests.{own, Serves, ServesMesh, SmallLengths};
+ghost use Rattle.stream.specs.Requests.{own, Within, Serves, ServesMesh, SmallLengths};
 ghost use Rattle.stream.specs.Sinks.{SinkReady};
 
 // Why no more requests are answered: the input ended behind a request; it ended within one; a read failed; or an answer did not go out whole or is not as recorded.
@@ -274,6 +275,57 @@ fn read_head(from: i32) -> Head
     }
 }
 
+// One request, of calls 1 to 3, 7 and 8, whose bytes are at hand.
+fn reply(
+    s: Sink,
+    r: Request,
+    b: &[u8],
+    positions: &mut [f32],
+    normals: &mut [f32],
+    tags: &mut [u32],
+    triangles: &mut [u32],
+    tubes: &mut [u32],
+    boxes: &mut [f32],
+    words: &mut [u32],
+    floats: &mut [f32],
+    out: &mut [u8],
+) -> Sink
+    requires { ⌜ SinkReady s (length (now out)) × Within (r .lent) (own (length (now positions)) (length (now normals)) (length (now tags))
+        (length (now triangles)) (length (now tubes)) (length (now boxes)) (length (now words)) (length (now floats))) × Answerable r (length (now b)) ⌝ }
+    ensures { λ t. ⌜ SinkReady t (length (now (out .entry))) ⌝ }
+{
+    if is_party(r) {
+        return party_replies::answer(
+            s,
+            r,
+            b,
+            positions,
+            normals,
+            tags,
+            triangles,
+            tubes,
+            boxes,
+            words,
+            floats,
+            out,
+        );
+    }
+    replies::answer(
+        s,
+        r,
+        b,
+        positions,
+        normals,
+        tags,
+        triangles,
+        tubes,
+        boxes,
+        words,
+        floats,
+        out,
+    )
+}
+
 // A request that is served: its bytes are read, and it is answered.
 fn answer_next(
     from: i32,
@@ -298,7 +350,7 @@ fn answer_next(
     if !is_whole(got) {
         return Served::Over(end_within(got));
     }
-    let t = replies::answer(
+    let t = reply(
         s,
         r,
         &bytes[..n],

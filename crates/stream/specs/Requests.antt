@@ -43,11 +43,15 @@ pub record Within (lent own : Lengths) : Type 0 where
 abbrev pub own : ℕ → ℕ → ℕ → ℕ → ℕ → ℕ → ℕ → ℕ → Lengths
 own p n t c k b w f = record { positions = p; normals = n; tags = t; triangles = c; tubes = k; boxes = b; words = w; floats = f }
 
--- build and plan take any bytes, tube the bytes of its two buffers
-abbrev pub known : Request → Bool
-known r = eqb (r .call) 1 || eqb (r .call) 2 || (eqb (r .call) 3 && eqb (r .bytes) (4 * (r .lent .tubes + r .lent .triangles)))
+-- the calls of one of two parties
+abbrev pub party : Request → Bool
+party r = eqb (r .call) 7 || eqb (r .call) 8
 
--- a request that is answered by one of calls 1 to 3, by a program whose arrays have the lengths own and room for so many bytes
+-- build and plan take any bytes, and so do a party's; tube the bytes of its two buffers
+abbrev pub known : Request → Bool
+known r = eqb (r .call) 1 || eqb (r .call) 2 || party r || (eqb (r .call) 3 && eqb (r .bytes) (4 * (r .lent .tubes + r .lent .triangles)))
+
+-- a request that is answered by one of calls 1 to 3, 7 and 8, by a program whose arrays have the lengths own and room for so many bytes
 pub record Serves (r : Request) (own : Lengths) (room : ℕ) : Type 0 where
   pub within : Within (r .lent) own
   pub fits : r .bytes ≤ room

@@ -3,7 +3,7 @@ ghost use mathlib.Core.Path.{_≡_};
 ghost use mathlib.Core.Bool.{true};
 ghost use Prim.Native.Nat.{_≤_, _<_};
 ghost use lib.ListN.{length};
-ghost use Rattle.stream.specs.Requests.{requestOf, SmallLengths, Within, known, Serves, meshPlaces, stlLent, ServesMesh};
+ghost use Rattle.stream.specs.Requests.{requestOf, SmallLengths, Within, party, known, Serves, meshPlaces, stlLent, ServesMesh};
 
 // How many places are lent of each buffer.
 pub struct Lengths {
@@ -77,7 +77,17 @@ fn is_within(lent: Lengths, own: Lengths) -> bool
     true
 }
 
-// Whether a request is one of calls 1 to 3 that is answered.
+// Whether a request is of one of two parties.
+pub fn is_party(r: Request) -> bool
+    ensures { λ a. ⌜ a ≡ party r ⌝ }
+{
+    if r.call == 7 {
+        return true;
+    }
+    r.call == 8
+}
+
+// Whether a request is one of calls 1 to 3, 7 and 8 that is answered. What the bytes of a party's say is looked at once they are read.
 fn is_known(r: Request) -> bool
     requires { ⌜ SmallLengths r ⌝ }
     ensures { λ a. ⌜ a ≡ known r ⌝ }
@@ -88,6 +98,9 @@ fn is_known(r: Request) -> bool
     if r.call == 2 {
         return true;
     }
+    if is_party(r) {
+        return true;
+    }
     if r.call == 3 {
         let lent = r.lent;
         return r.bytes == 4 * (lent.tubes + lent.triangles);
@@ -95,7 +108,7 @@ fn is_known(r: Request) -> bool
     false
 }
 
-// Whether a program answers a request by one of calls 1 to 3: it knows it, and has room for the lent buffers and the bytes.
+// Whether a program answers a request by one of calls 1 to 3, 7 and 8: it knows it, and has room for the lent buffers and the bytes.
 pub fn is_served(r: Request, own: Lengths, room: usize) -> bool
     requires { ⌜ SmallLengths r ⌝ }
     ensures { λ a. ⌜ (a ≡ true → Serves r own room) × (Serves r own room → a ≡ true) ⌝ }

@@ -10,13 +10,13 @@ use Rattle.serve.proofs.answer_next.Tie as tie
 slice-aggregate-fill : tie.Need-slice-aggregate-fill
 slice-aggregate-fill c = sym (length-take-le _ _ (c .before .before .before .before .before .before .before .before .before .before .before .pre .1 .fits))
 
-slice-aggregate-answer : tie.Need-slice-aggregate-answer
-slice-aggregate-answer c = sym (length-take-le _ _ (simp length-append (omega (arith, c .before .before .before .before .bytes .given, length-take-le _ (c .before .before .before .before .before .before .before .before .before .before .before .before .before .before .before .before .before .args .bytes .now) (c .before .before .before .before .before .before .before .before .before .before .before .before .before .before .before .before .before .pre .1 .fits)))))
+slice-aggregate-reply : tie.Need-slice-aggregate-reply
+slice-aggregate-reply c = sym (length-take-le _ _ (simp length-append (omega (arith, c .before .before .before .before .bytes .given, length-take-le _ (c .before .before .before .before .before .before .before .before .before .before .before .before .before .before .before .before .before .args .bytes .now) (c .before .before .before .before .before .before .before .before .before .before .before .before .before .before .before .before .before .pre .1 .fits)))))
 
-answer-requires : tie.Need-answer-requires
-answer-requires c κs =
+reply-requires : tie.Need-reply-requires
+reply-requires c κs =
     let pre = c .before .before .before .before .before .before .before .before .before .before .before .before .before .before .before .before .before .before .before .before .before .before .before .before .before .before .pre in
-    (pre .0, pre .1 .within, λ a b. length-take-le _ _ (simp length-append (omega (arith, c .before .before .before .before .before .before .before .before .before .before .before .before .before .bytes .given, length-take-le _ (c .before .before .before .before .before .before .before .before .before .before .before .before .before .before .before .before .before .before .before .before .before .before .before .before .before .before .args .bytes .now) (pre .1 .fits)))) ∙ known-sized (c .before .before .before .before .before .before .before .before .before .before .before .before .before .before .before .before .before .before .before .before .before .before .before .before .before .before .args .r) (pre .1 .knows) a b)
+    (pre .0, pre .1 .within, λ p a b. length-take-le _ _ (simp length-append (omega (arith, c .before .before .before .before .before .before .before .before .before .before .before .before .before .bytes .given, length-take-le _ (c .before .before .before .before .before .before .before .before .before .before .before .before .before .before .before .before .before .before .before .before .before .before .before .before .before .before .args .bytes .now) (pre .1 .fits)))) ∙ known-sized (c .before .before .before .before .before .before .before .before .before .before .before .before .before .before .before .before .before .before .before .before .before .before .before .before .before .before .args .r) (pre .1 .knows) p a b)
 
 same-length-2 : tie.Need-same-length-2
 same-length-2 c = c .before .before .before .before .before .before .before .before .before .before .before .before .before .before .before .before .before .before .before .positions .given
@@ -43,8 +43,8 @@ answer-next-spec =
     (λ c. search needs)
     slice-aggregate-fill
     (λ c κs. search needs) (λ c κs. search needs) (λ c κs. search needs) (λ c. search needs) (λ c. search needs) (λ c. search needs)
-    slice-aggregate-answer
-    answer-requires
+    slice-aggregate-reply
+    reply-requires
     (λ c κs. search needs)
     same-length-2
     same-length-3
