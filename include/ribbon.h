@@ -6,8 +6,8 @@
  * WHAT IS DEMANDED. A buffer is a pointer and its length in places (bytes, words or floats). The pointer is good for that length, and no two buffers of one
  * call overlap, the answer among them; an empty buffer may be null. Nothing else is demanded: every file, every job and every length has an answer. A refused
  * call changes no output buffer, and places past what a call writes stay as they were. What each call answers, and what it leaves in every buffer, is set out
- * in crates/promises/specs/Calls.antt, for ribbon_tube in crates/tube_call/specs/Part.antt, for the other three in specs/Call.antt of crates/pdb_reader,
- * crates/stl_writer and crates/stl_reader, as words in crates/ribbon_c/specs/Words.antt, and proved.
+ * in crates/promises/specs/Calls.antt, for two parties in crates/party_promises/specs/Calls.antt, for ribbon_tube in crates/tube_call/specs/Part.antt, for the
+ * other three in specs/Call.antt of crates/pdb_reader, crates/stl_writer and crates/stl_reader, as words in crates/ribbon_c/specs/Words.antt, and proved.
  *
  * THE ORDER OF A HOST'S CALLS (examples/host.c is such a host):
  *   1. ribbon_read_pdb with no room, null and 0: of a right file RIBBON_NO_JOB_ROOM carries the job's size; any other refusal says what is wrong with the file.
@@ -42,8 +42,20 @@
  *              box, each of the six floats is a coordinate of one of them (of equals, as -0 and 0, the first), and where the boxes of two tubes, of one mesh or
  *              of two, are apart on an axis, so are their vertices. No mesh so far has had a NaN: where a tube's first vertex had one, both floats of that axis would
  *              be NaN, and any other would be passed over.
- * The scratch is RIBBON_SCRATCH_WORDS(R) words and RIBBON_SCRATCH_FLOATS(R) floats, whatever they hold. Refusals 1 to 9 leave it as it was; after any other
- * answer these places are 0.
+ * The scratch is RIBBON_SCRATCH_WORDS(R) words and RIBBON_SCRATCH_FLOATS(R) floats, whatever they hold. Refusals 1 to 9 and 20 leave it as it was; after any
+ * other answer these places are 0.
+ *
+ * TWO PARTIES ON ONE STRUCTURE, two laboratories that mark helices and strands of the same atoms (examples/parties.c): both hand over one shared job, whose S
+ * is 0, and each its own segment records, RIBBON_RECORD_SIZE bytes each, laid out as in a job and numbered from 0. The six output buffers are one set, and of
+ * each of them each party has a share: a start and a length, in places. A start need not be a multiple of 3, 5 or 6; shares may touch; an empty one overlaps
+ * nothing, and may stand anywhere up to the buffer's end. start + length is never taken with wrapping.
+ *   1. ribbon_plan_records for each party: its own K, V and T. So many places does its share need: 3 V, 3 V, V, 3 T, 5 K and 6 K.
+ *   2. ribbon_build_share, by either party, as often as it likes and in any order, always with both parties' shares, its own first.
+ * But for what 4 and 20 say of parties, a party is answered as ribbon_build answers the job with its records in it, in buffers that are its share: by the same
+ * words, and by the same mesh from the share's first place on, corners and starts counted from 0 there. No place outside its share changes. So whatever the
+ * other party calls with the same shares, before it or after it, refused or not, is seen neither in its answer nor in its share. The scratch may be one and the
+ * same for both. Limit 10 is for each party alone. A party hands its share to ribbon_tube or ribbon_write_stl as positions + start and the share's length, and
+ * so on.
  *
  * A BINARY STL FILE has RIBBON_STL_SIZE(T) = 84 + 50 T bytes, its numbers little-endian:
  *   byte  0  80 bytes, the header: all 0 where we write; the reader skips it
@@ -60,7 +72,8 @@
  * AN ANSWER is words: 0 and what was asked for, or a refusal's number (enum ribbon_refusal) and what it carries, with 0 where there is nothing. K, V, T and the
  * size of a job or of an STL file always fit. Of a line's number the low 32 bits are given, so past 4,294,967,295 lines it wraps.
  *
- * THREADS. The library has no variables and allocates nothing: any number of threads may call it at once, each on buffers of its own.
+ * THREADS. The library has no variables and allocates nothing: any number of threads may call it at once, each on buffers of its own. Two parties on one set of
+ * buffers call one after the other: each call is lent the whole of them, and nothing is proved of two at once. The job and the records are only read.
  *
  * THE STACK is bounded by no theorem. ribbon_read_pdb keeps tables there and wants 700 KiB: it was seen to use 674,488 bytes. All other calls want 32 KiB:
  * ribbon_plan and ribbon_build were seen to use less than 8, ribbon_write_stl and ribbon_read_stl less than 1. A thread with too little crashes. glibc gives a
@@ -86,6 +99,10 @@ extern "C" {
 /* R, where the job has 13 bytes or more. A job with R above RIBBON_MAX_RESIDUES is refused whatever scratch is lent. */
 #define RIBBON_RESIDUES(job) ((size_t)((const uint8_t *)(job))[7] * 256 + ((const uint8_t *)(job))[8])
 
+/* The bytes of a segment record, and how many records a party has at most. */
+#define RIBBON_RECORD_SIZE 9
+#define RIBBON_MAX_RECORDS 65535
+
 /* The scratch for r residues. */
 #define RIBBON_SCRATCH_WORDS(r) (8 * (size_t)(r))
 #define RIBBON_SCRATCH_FLOATS(r) (32 * (size_t)(r))
@@ -95,9 +112,10 @@ enum ribbon_kind { RIBBON_COIL = 0, RIBBON_HELIX = 1, RIBBON_SHEET = 2 };
 /* The bytes of a binary STL file of t facets. */
 #define RIBBON_STL_SIZE(t) (84 + 50 * (size_t)(t))
 
-/* The refusals in the order of checking: of several faults the first here is given, but for ribbon_read_stl. ribbon_build gives 1 to 11, ribbon_plan 1 to 10, and ribbon_read_pdb 12 to
- * 16, where the first line at fault decides among 12 to 14. No job that ribbon_read_pdb wrote is refused by 1 to 8. ribbon_write_stl gives 17 and then 18,
- * ribbon_read_stl 19 and then 18. */
+/* The refusals in the order of checking: of several faults the first here is given, but for ribbon_read_stl. ribbon_build gives 1 to 11, ribbon_plan 1 to 10,
+ * and so do ribbon_build_share and ribbon_plan_records, where ribbon_build_share gives 20 too, after 8 and before 9. ribbon_read_pdb gives 12 to 16, where the
+ * first line at fault decides among 12 to 14. No job that ribbon_read_pdb wrote is refused by 1 to 8, by ribbon_build or ribbon_plan. ribbon_write_stl gives 17
+ * and then 18, ribbon_read_stl 19 and then 18. */
 enum ribbon_refusal {
     /* The job has under 13 bytes, or its length field differs from the bytes after it. Carries 0. Hand over the whole job, and no byte more. */
     RIBBON_BAD_LENGTH = 1,
@@ -105,21 +123,25 @@ enum ribbon_refusal {
     RIBBON_BAD_VERSION = 2,
     /* There are more than 255 chains or 16,384 residues. Carries 0. Make several jobs of it. */
     RIBBON_BAD_COUNTS = 3,
-    /* The job's size is not 13 + C + 9 S + 33 A. Carries 0. Let the four counts be those of what follows. */
+    /* The job's size is not 13 + C + 9 S + 33 A. Carries 0. Let the four counts be those of what follows. Of a party also: S is not 0, or its records are not a
+     * multiple of 9 bytes, or are more than 65,535. Take the segments out of the shared job, and hand over whole records. */
     RIBBON_BAD_SIZE = 4,
     /* A chain's byte is above 1. Carries the first such chain. Write 1 or 0. */
     RIBBON_BAD_VISIBILITY = 5,
-    /* A segment's kind is above 2. Carries the first such segment. Write one of enum ribbon_kind. */
+    /* A segment's kind is above 2. Carries the first such segment, of a party the first such record. Write one of enum ribbon_kind. */
     RIBBON_BAD_KIND = 6,
     /* A role is above 2, or a residue is R or more, or a chain C or more, and not 65535. Carries the first such atom. Let R and C count them all. */
     RIBBON_BAD_ATOM = 7,
     /* A coordinate is not within -16384 to 16384, a NaN among them. Carries the first such atom. Move the model to the origin. */
     RIBBON_BAD_COORDINATE = 8,
+    /* In one of the six buffers the shares of two parties overlap, or one of them leaves the buffer. Carries 0. Deal them out anew; both are checked, whoever
+     * calls, those of a party with no tubes too. */
+    RIBBON_BAD_SHARES = 20,
     /* There are fewer than 8 R scratch words or 32 R scratch floats. Carries 0. Lend RIBBON_SCRATCH_WORDS(R) and RIBBON_SCRATCH_FLOATS(R). */
     RIBBON_NO_SCRATCH = 9,
     /* The mesh would have more than 1,048,576 vertices. Carries 0. Hide chains, or make several jobs of it. */
     RIBBON_TOO_MANY_VERTICES = 10,
-    /* An output buffer is too short. Carries K, V and T. Lend room for these. */
+    /* An output buffer is too short, or a party's share of it. Carries K, V and T. Lend room for these. */
     RIBBON_NO_ROOM = 11,
     /* A line ends before its last column read, 54 of ATOM, 38 of HELIX and SHEET. Carries the line, counted from 1. Pad lines with blanks to 80 columns. */
     RIBBON_SHORT_LINE = 12,
@@ -151,6 +173,21 @@ void ribbon_build(const uint8_t *job, size_t job_len, float *positions, size_t p
 /* Counts without building. answer: 0, K, V, T and tube k's five words, all five 0 if k is K or more; or a refusal as above, then 0s. */
 void ribbon_plan(const uint8_t *job, size_t job_len, size_t k, uint32_t *words, size_t words_len, float *floats, size_t floats_len,
                  uint32_t answer[9]);
+
+/* Builds the mesh of a shared job with the caller's records, in the caller's share of each buffer; the buffers and their lengths are the whole ones. shares:
+ * the caller's twelve numbers, start and length of its share of positions, normals, tags, triangles, tubes and boxes, in places; then the other party's twelve.
+ * A share needs the places that ribbon_build needs in a buffer; the scratch is the same. Inside the share places past the mesh stay, and outside it every place
+ * does. answer: 0, K, V, T of the caller's mesh; or a refusal's number, 1 to 11 or 20, and what it carries. Where the caller's six
+ * shares are empty, RIBBON_NO_ROOM carries what they need. */
+void ribbon_build_share(const uint8_t *job, size_t job_len, const uint8_t *records, size_t records_len, const size_t shares[24],
+                        float *positions, size_t positions_len, float *normals, size_t normals_len, uint32_t *tags, size_t tags_len,
+                        uint32_t *triangles, size_t triangles_len, uint32_t *tubes, size_t tubes_len, float *boxes, size_t boxes_len,
+                        uint32_t *words, size_t words_len, float *floats, size_t floats_len, uint32_t answer[4]);
+
+/* Counts without building, of a shared job with the caller's records; there is no share and no refusal 20. answer: 0, K, V, T and the five words of the tube of
+ * that number, all five 0 if it is K or more; or a refusal's number, 1 to 10, and what it carries, then 0s. */
+void ribbon_plan_records(const uint8_t *job, size_t job_len, const uint8_t *records, size_t records_len, size_t tube, uint32_t *words, size_t words_len,
+                         float *floats, size_t floats_len, uint32_t answer[9]);
 
 /* Where tube k's triangles stand in the caller's own triangle buffer: the part begins at place *start and has as many places as the
  * answer says; both are 0 where there is no such part. */
