@@ -6,7 +6,12 @@
  * Where the variable STL is set it plays a library with one mesh, for examples/stl.c: any file is that job, and its mesh is 74 vertices at the origin and 144
  * triangles, each three times vertex 0. STL=right keeps every promise. STL=file, corners or normals changes a byte of that buffer in a call that is refused, or
  * behind or before it where '+' or '-' follows; STL=positions changes the mesh; STL=float writes a file with another float; STL=size answers a size that is not
- * the file's; STL=read changes the file that is listed; STL=nan lists a NaN as it stands in the file; STL=empty has a mesh of nothing. */
+ * the file's; STL=read changes the file that is listed; STL=nan lists a NaN as it stands in the file; STL=empty has a mesh of nothing.
+ * Where the variable PARTIES is set it plays a library for two parties, for examples/parties.c: any file is that job with a helix, and every mesh is 74
+ * vertices of zeros. PARTIES=right keeps every promise. PARTIES=gap, behind or other changes the place before the caller's share of the triangles, behind its
+ * mesh or the first one of the other's; guard the one before that buffer; mesh writes another word; scratch leaves a word there; counts answers others; overlap
+ * takes shares that overlap, leave those that leave a buffer, wrap those whose end wraps; touch refuses those that touch, empty those that are empty; late
+ * clears the scratch under 20; size takes a job that has segments, cut records that are not whole. */
 #include "ribbon.h"
 #include <stdlib.h>
 #include <string.h>
@@ -32,6 +37,9 @@ static void touch_byte(const char *variable, void *at, size_t size) {
     *buffer ^= 1;
 }
 
+/* whether PARTIES is this word */
+static int party(const char *word) { return getenv("PARTIES") && !strcmp(getenv("PARTIES"), word); }
+
 void ribbon_build(const uint8_t *job, size_t job_len, float *positions, size_t positions_len, float *normals, size_t normals_len,
                   uint32_t *tags, size_t tags_len, uint32_t *triangles, size_t triangles_len, uint32_t *tubes, size_t tubes_len,
                   float *boxes, size_t boxes_len, uint32_t *words, size_t words_len, float *floats, size_t floats_len,
@@ -40,7 +48,7 @@ void ribbon_build(const uint8_t *job, size_t job_len, float *positions, size_t p
     size_t sizes[] = {positions_len, normals_len, tags_len, triangles_len, tubes_len, boxes_len};
     const char *touch = getenv("TOUCH");
     (void)job, (void)job_len, (void)words, (void)words_len, (void)floats, (void)floats_len;
-    if (getenv("STL")) {
+    if (getenv("STL") || getenv("PARTIES")) {
         for (int i = 0; i < 6; i++) memset(at[i], 0, 4 * sizes[i]);
         if (tubes_len) tubes[2] = 2;
         say(answer, 4, 0, (uint32_t)tubes_len / 5, (uint32_t)tags_len, (uint32_t)triangles_len / 3);
@@ -58,21 +66,68 @@ void ribbon_plan(const uint8_t *job, size_t job_len, size_t k, uint32_t *words, 
     else say(answer, 9, RIBBON_BAD_LENGTH, 0, 0, 0);
 }
 
+/* whether shares of n places, two numbers each, are bad */
+static int bad_share(size_t n, const size_t *a, const size_t *b) {
+    const size_t *both[] = {a, b};
+    for (int i = 0; i < 2; i++) {
+        size_t start = both[i][0], len = both[i][1];
+        if (start + len < start ? !party("wrap") : start + len > n && !party("leave")) return 1;
+        if (!len && party("empty")) return 1;
+    }
+    if (!a[1] || !b[1] || party("overlap")) return 0;
+    return party("touch") ? a[0] <= b[0] + b[1] && b[0] <= a[0] + a[1] : a[0] < b[0] + b[1] && b[0] < a[0] + a[1];
+}
+
+void ribbon_build_share(const uint8_t *job, size_t job_len, const uint8_t *records, size_t records_len, const size_t shares[24],
+                        float *positions, size_t positions_len, float *normals, size_t normals_len, uint32_t *tags, size_t tags_len,
+                        uint32_t *triangles, size_t triangles_len, uint32_t *tubes, size_t tubes_len, float *boxes, size_t boxes_len,
+                        uint32_t *words, size_t words_len, float *floats, size_t floats_len, uint32_t answer[4]) {
+    uint32_t *at[] = {(uint32_t *)positions, (uint32_t *)normals, tags, triangles, tubes, (uint32_t *)boxes};
+    size_t sizes[] = {positions_len, normals_len, tags_len, triangles_len, tubes_len, boxes_len}, needs[] = {222, 222, 74, 432, 5, 6};
+    int bad = 0, room = 1;
+    (void)job_len, (void)records;
+    for (int i = 0; i < 6; i++) bad |= bad_share(sizes[i], shares + 2 * i, shares + 12 + 2 * i), room &= shares[2 * i + 1] >= needs[i];
+    if (!getenv("PARTIES")) say(answer, 4, RIBBON_BAD_LENGTH, 0, 0, 0);
+    else if ((job[10] && !party("size")) || (records_len % RIBBON_RECORD_SIZE && !party("cut"))) say(answer, 4, RIBBON_BAD_SIZE, 0, 0, 0);
+    else if (bad) say(answer, 4, RIBBON_BAD_SHARES, 0, 0, 0);
+    else say(answer, 4, room ? 0 : RIBBON_NO_ROOM, 1, 74, 144 + (uint32_t)party("counts"));
+    if (!answer[0] || answer[0] == RIBBON_NO_ROOM || party("late")) memset(words, 0, 4 * words_len), memset(floats, 0, 4 * floats_len);
+    if (answer[0]) return;
+    for (int i = 0; i < 6; i++) memset(at[i] + shares[2 * i], 0, 4 * needs[i]);
+    words[3] = party("scratch");
+    tubes[shares[8] + 2] = 2;
+    if (party("mesh")) triangles[shares[6] + 7] = 1;
+    if (party("gap")) triangles[shares[6] - 1] ^= 1;
+    if (party("behind")) triangles[shares[6] + needs[3]] ^= 1;
+    if (party("other")) triangles[shares[18]] ^= 1;
+    if (party("guard")) triangles[-1] ^= 1;
+}
+
+void ribbon_plan_records(const uint8_t *job, size_t job_len, const uint8_t *records, size_t records_len, size_t tube, uint32_t *words, size_t words_len,
+                         float *floats, size_t floats_len, uint32_t answer[9]) {
+    (void)job, (void)job_len, (void)records, (void)records_len, (void)tube, (void)words, (void)words_len, (void)floats, (void)floats_len;
+    if (getenv("PARTIES")) say(answer, 9, 0, 1, 74, 144);
+    else say(answer, 9, RIBBON_BAD_LENGTH, 0, 0, 0);
+}
+
 size_t ribbon_tube(const uint32_t *tubes, size_t tubes_len, const uint32_t *triangles, size_t triangles_len, size_t k, size_t *start) {
     (void)tubes, (void)tubes_len, (void)triangles, (void)triangles_len, (void)k;
     return *start = 0;
 }
 
 void ribbon_read_pdb(const uint8_t *file, size_t file_len, uint8_t *job_out, size_t job_out_len, uint32_t answer[4]) {
-    static const uint8_t job[80] = {0, 0, 0, 76, 1, 0, 1, 0, 2, 0, 0, 0, 2, 1};
+    static const uint8_t plain[80] = {0, 0, 0, 76, 1, 0, 1, 0, 2, 0, 0, 0, 2, 1};
+    static const uint8_t helix[89] = {0, 0, 0, 85, 1, 0, 1, 0, 2, 0, 1, 0, 2, 1, 1, 0, 0, 0, 0, 0, 0, 0, 9};
+    const uint8_t *job = getenv("PARTIES") ? helix : plain;
+    uint32_t size = job == helix ? sizeof helix : sizeof plain;
     (void)file, (void)file_len;
-    if (!getenv("TOUCH") && !getenv("STL")) {
+    if (!getenv("TOUCH") && !getenv("STL") && !getenv("PARTIES")) {
         say(answer, 4, RIBBON_BAD_LENGTH, 0, 0, 0);
-    } else if (job_out_len < sizeof job) {
-        say(answer, 4, RIBBON_NO_JOB_ROOM, sizeof job, 0, 0);
+    } else if (job_out_len < size) {
+        say(answer, 4, RIBBON_NO_JOB_ROOM, size, 0, 0);
     } else {
-        memcpy(job_out, job, sizeof job);
-        say(answer, 4, 0, sizeof job, 0, 0);
+        memcpy(job_out, job, size);
+        say(answer, 4, 0, size, 0, 0);
     }
 }
 
