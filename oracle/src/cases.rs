@@ -1,10 +1,12 @@
-//! The bench cases of 01 as jobs and requests, and a job for 02's boxes, for the tests and for the recorded answers.
+//! The bench cases of 01 as jobs and requests, a job for 02's boxes, and two laboratories on one job (02 §5), for the tests and for the recorded
+//! answers.
 
 use crate::{
     calls::needs,
-    job::{NONE, RawAtom, RawJob, RawSegment},
-    jobs::with_vertices,
-    protocol::{BUILD, PLAN, Request, TUBE},
+    job::{NONE, RawAtom, RawJob, RawSegment, record_bytes},
+    jobs::{segment, with_vertices},
+    parties::{Share, Shares},
+    protocol::{BUILD, BUILD_SHARE, PLAN, PLAN_RECORDS, PartyBytes, Request, TUBE},
     tubes::{MAX_VERTICES, triangles_of},
 };
 
@@ -190,4 +192,62 @@ pub fn at_vertex_limit(more: u64) -> RawJob {
     let mut job = with_vertices(MAX_VERTICES + more, 64).expect("such lengths exist");
     job.atoms.iter_mut().for_each(|a| a.chain = NONE);
     job
+}
+
+/// A party's build, whole buffers of these lengths.
+fn party_build(party: u32, lengths: [u32; 8], bytes: PartyBytes) -> Request {
+    Request {
+        call: BUILD_SHARE,
+        lengths,
+        k: party,
+        bytes: bytes.encode(),
+    }
+}
+
+/// Two laboratories on the two residues: the first marks nothing and has a coil, the second a sheet over both, in touching shares that fill the
+/// buffers. The builds of the first, of the second and of the first again, and a plan of the second.
+pub fn laboratories() -> Vec<Request> {
+    let need = needs(1, 74, 144, 2);
+    let share = |party: u64| std::array::from_fn(|i| Share::new(party * need[i], need[i]));
+    let marks = [Vec::new(), record_bytes(&[segment(2, 1, 2)])];
+    let lengths = std::array::from_fn(|i| need[i] as u32 * if i < 6 { 2 } else { 1 });
+    let bytes = |party: usize| PartyBytes {
+        shares: Some([share(0), share(1)]),
+        records: marks[party].clone(),
+        job: two_residues().bytes(),
+    };
+    let build = |party: usize| party_build(party as u32, lengths, bytes(party));
+    let shares = None;
+    let plan = Request {
+        call: PLAN_RECORDS,
+        bytes: PartyBytes { shares, ..bytes(1) }.encode(),
+        ..plan_request(&two_residues(), 0)
+    };
+    vec![build(0), build(1), build(0), plan]
+}
+
+/// A party whose share of normals alone is a place short, though the buffer is not.
+pub fn party_short_of_normals() -> Request {
+    let need = needs(1, 74, 144, 2);
+    let mut mine: Shares = std::array::from_fn(|i| Share::new(0, need[i]));
+    mine[1].length -= 1;
+    let bytes = PartyBytes {
+        shares: Some([mine, [Share::default(); 6]]),
+        records: Vec::new(),
+        job: two_residues().bytes(),
+    };
+    party_build(0, need.map(|n| n as u32), bytes)
+}
+
+/// A party past the vertex limit, in no room but the scratch.
+pub fn party_past_the_limit() -> Request {
+    let mut job = with_vertices(MAX_VERTICES + 2, 32).expect("such lengths exist");
+    let records = record_bytes(&std::mem::take(&mut job.segments));
+    let bytes = PartyBytes {
+        shares: Some([[Share::default(); 6]; 2]),
+        records,
+        job: job.bytes(),
+    };
+    let lengths = needs(0, 0, 0, job.residues as u64).map(|n| n as u32);
+    party_build(0, lengths, bytes)
 }

@@ -5,10 +5,10 @@ use std::{collections::HashMap, fs, io, path::Path};
 
 use crate::{
     cases,
-    generator::{file_request, job_request, stl_request},
+    generator::{file_request, job_request, party_request, stl_request},
     protocol::{
-        BUILD, NAMES, PLAN, READ, READ_STL, Request, TOO_LONG, TUBE, WRITE_STL, answer,
-        encode_answer,
+        BUILD, BUILD_SHARE, NAMES, PLAN, PLAN_RECORDS, READ, READ_STL, Request, TOO_LONG, TUBE,
+        WRITE_STL, answer, encode_answer,
     },
     wrong::{self, Mutation},
 };
@@ -18,8 +18,19 @@ const SEED: u64 = 20_250_101;
 const MOST_EACH: usize = 14_000;
 /// The same for STL, where lent bytes are one each: the mesh of two residues and its file, with a few places more.
 const MOST_STL: usize = 11_600;
+/// The same for a party's call: a mesh of two residues with little room for the other's; and where 1 to 9 refuse it before there is one.
+const MOST_PARTY: usize = 5_400;
+const MOST_REFUSED: usize = 1_500;
+/// The mistakes about parties that show only where there are very many records, which would take more room than all else.
+pub const OF_MANY: [Mutation; 4] = [
+    Mutation::PartyManyTaken,
+    Mutation::PartyCountWraps,
+    Mutation::PartyLimitExclusive,
+    Mutation::PartyLimitOfBytes,
+];
 
-/// How many generated requests of this call and kind of answer are kept. A part of a tube counts as kind 1.
+/// How many generated requests of this call and kind of answer are kept. A part of a tube counts as kind 1. A party's 10 and 11 are cases by hand:
+/// no generated one is small.
 fn wanted(call: u8, kind: u32) -> usize {
     match (call, kind) {
         (BUILD, 0) => 90,
@@ -40,6 +51,11 @@ fn wanted(call: u8, kind: u32) -> usize {
         (READ_STL, 0) => 7,
         (READ_STL, 18) => 4,
         (READ_STL, 19) => 4,
+        (BUILD_SHARE, 0) => 3,
+        (BUILD_SHARE, 20) => 4,
+        (BUILD_SHARE, 1..=9) => 1,
+        (PLAN_RECORDS, 0) => 3,
+        (PLAN_RECORDS, 1..=9) => 1,
         _ => 0,
     }
 }
@@ -50,32 +66,46 @@ fn kinds(call: u8) -> std::ops::RangeInclusive<u32> {
         TUBE => 0..=1,
         READ => 0..=16,
         WRITE_STL | READ_STL => 0..=19,
+        BUILD_SHARE => 0..=20,
         _ => 0..=11,
     }
 }
 
-/// The bench cases of 01, then generated requests of every kind, then files, then the job of equal coordinates, and last STL. What is added stands
-/// at the end, so that the requests before it stay as they are.
+/// The bench cases of 01, then generated requests of every kind, then files, then the job of equal coordinates, then STL, and last two parties. What
+/// is added stands at the end, so that the requests before it stay as they are.
 pub fn sample() -> Vec<Request> {
     let mut sample = cases::requests();
     keep(&mut sample, &[BUILD, PLAN, TUBE], job_request);
     keep(&mut sample, &[READ], file_request);
     sample.push(cases::build_request(&cases::ties(), [1, 74, 144], 0));
     keep(&mut sample, &[WRITE_STL, READ_STL], stl_request);
-    keep_what_shows(&mut sample);
+    keep_what_shows(&mut sample, "Stl", is_stl, stl_request);
+    sample.extend(cases::laboratories());
+    sample.push(cases::party_short_of_normals());
+    sample.push(cases::party_past_the_limit());
+    keep(&mut sample, &[BUILD_SHARE, PLAN_RECORDS], party_request);
+    keep_what_shows(&mut sample, "Party", is_party, party_request);
     sample
 }
 
-/// Keeps requests of STL until each mistake about it shows in one of them.
-fn keep_what_shows(sample: &mut Vec<Request>) {
+/// Keeps requests of these calls until each mistake about them shows in one of them.
+fn keep_what_shows(
+    sample: &mut Vec<Request>,
+    prefix: &str,
+    is_one: fn(&Request) -> bool,
+    request: fn(u64, u64) -> Request,
+) {
     let shows = |m: Mutation, r: &Request| wrong::with(Some(m), || answer(r)) != answer(r);
-    let about = |m: &&Mutation| m.name().starts_with("Stl");
+    let about = |m: &&Mutation| m.name().starts_with(prefix) && !OF_MANY.contains(m);
     for &m in Mutation::ALL.iter().filter(about) {
-        if sample.iter().any(|r| is_stl(r) && shows(m, r)) {
+        if sample.iter().any(|r| is_one(r) && shows(m, r)) {
             continue;
         }
-        let requests = (0..).map(|i| stl_request(SEED, i));
+        let requests = (0..).map(|i| request(SEED, i));
         let mut small = requests.filter(|r| {
+            if lent_too_much(r) {
+                return false;
+            }
             let a = answer(r);
             a[0] != TOO_LONG && !too_large(r, &a)
         });
@@ -87,10 +117,25 @@ fn is_stl(r: &Request) -> bool {
     [WRITE_STL, READ_STL].contains(&r.call)
 }
 
+fn is_party(r: &Request) -> bool {
+    [BUILD_SHARE, PLAN_RECORDS].contains(&r.call)
+}
+
+/// Whether a party's call is too large by its bytes and the places that it is lent, whatever is answered. Most are, and need no answer.
+fn lent_too_much(r: &Request) -> bool {
+    let lent = if r.call == BUILD_SHARE { 0 } else { 6 };
+    let places: usize = r.lengths[lent..].iter().map(|&n| n as usize).sum();
+    is_party(r) && r.bytes.len() + 4 * places > MOST_PARTY
+}
+
 /// Whether a request and its answer would take too much room here.
 fn too_large(r: &Request, a: &[u32]) -> bool {
     match r.call {
         _ if is_stl(r) => r.encode().len() + encode_answer(r, a).len() > MOST_STL,
+        _ if is_party(r) => {
+            let early = (1..=9).contains(&a[0]);
+            r.bytes.len() + 4 * a.len() > if early { MOST_REFUSED } else { MOST_PARTY }
+        }
         _ => r.bytes.len() + 4 * a.len() > MOST_EACH + 5000 * (a[0] == 10) as usize,
     }
 }
@@ -105,7 +150,7 @@ fn keep(sample: &mut Vec<Request>, calls: &[u8], request: fn(u64, u64) -> Reques
             break;
         }
         let r = request(SEED, i);
-        if r.bytes.len() > MOST_EACH {
+        if r.bytes.len() > MOST_EACH || lent_too_much(&r) {
             continue;
         }
         let a = answer(&r);
@@ -162,8 +207,10 @@ the oracle's answers in the same order. They were made by
 which always gives the same bytes: first the bench cases of 01 (`oracle/src/cases.rs`), then requests of the generator's seed {SEED}, kept until
 there are enough of each call and each kind of answer: meshes, refusals 1 to 11, plans, parts of a triangle buffer and empty parts; then PDB
 files, jobs and refusals 12, 13, 14 and 16 (a file that gets 15 has 16,385 residues); then the job `ties` of `cases.rs`, whose box has equal
-coordinates to choose from, +0 and -0; and last binary STL, mesh buffers written and files listed, with refusals 17, 18 and
-19, and requests at which each mistake about STL in `wrong.rs` shows.
+coordinates to choose from, +0 and -0; then binary STL, mesh buffers written and files listed, with refusals 17, 18 and
+19, and requests at which each mistake about STL in `wrong.rs` shows; and last two parties on one job: two laboratories by turns (`cases.rs`), then
+builds with refusals 1 to 11 and 20, plans with refusals 1 to 9, and requests at which each mistake about parties shows, but for four about very many
+records.
 The longest buffers lent are, in places (the lent job bytes of call 4 and the corner floats of call 6 count as positions, its normal floats as normals,
 the lent STL bytes of call 5 as scratch words): {lengths}; the longest bytes of a request {bytes}.
 The oracle's tests fail when it answers otherwise; the program `replay` runs them without it. The cosines and sines behind the meshes are those

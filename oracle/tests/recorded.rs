@@ -5,7 +5,8 @@ use std::{collections::HashSet, fs, path::PathBuf};
 use oracle::{
     angles,
     protocol::{
-        BUILD, PLAN, READ, READ_STL, Request, TUBE, WRITE_STL, answer, encode_answer, read_answer,
+        BUILD, BUILD_SHARE, PLAN, PLAN_RECORDS, READ, READ_STL, Request, TUBE, WRITE_STL, answer,
+        encode_answer, read_answer,
     },
     record,
     wrong::{self, Mutation},
@@ -47,6 +48,8 @@ fn they_hold_every_kind_and_are_small() {
     wanted.extend([0, 12, 13, 14, 16].map(|n| (READ, n)));
     wanted.extend([0, 17, 18].map(|n| (WRITE_STL, n)));
     wanted.extend([0, 18, 19].map(|n| (READ_STL, n)));
+    wanted.extend((0..=11).chain([20]).map(|n| (BUILD_SHARE, n)));
+    wanted.extend((0..=9).map(|n| (PLAN_RECORDS, n)));
     assert_eq!(kinds, wanted);
 }
 
@@ -74,6 +77,22 @@ fn each_mistake_about_stl_shows_in_them() {
     for &m in Mutation::ALL {
         if m.name().starts_with("Stl") {
             assert!(stl.iter().any(|r| shows(m, r)), "{}", m.what());
+        }
+    }
+}
+
+/// And each mistake about parties, but for those that very many records show.
+#[test]
+fn each_mistake_about_parties_shows_in_them() {
+    let sample = record::sample();
+    let parties = sample
+        .iter()
+        .filter(|r| [BUILD_SHARE, PLAN_RECORDS].contains(&r.call));
+    let parties: Vec<&Request> = parties.collect();
+    assert!((40..=50).contains(&parties.len()), "{}", parties.len());
+    for &m in Mutation::ALL {
+        if m.name().starts_with("Party") && !record::OF_MANY.contains(&m) {
+            assert!(parties.iter().any(|r| shows(m, r)), "{}", m.what());
         }
     }
 }
