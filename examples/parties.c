@@ -303,7 +303,7 @@ static int bad_shares(struct table *t, const struct deal *good) {
     return calls;
 }
 
-/* A's shares are empty, by turns within B's and at the buffer's end: A has no room, where it needs any, and B builds */
+/* A's shares are empty, by turns within B's and at the buffer's end: A has no room, but for a mesh of nothing, and B builds */
 static void empty_shares(struct table *t, const struct deal *good) {
     struct deal d = *good;
     for (int b = 0; b < OUTPUTS; b++) {
@@ -312,6 +312,7 @@ static void empty_shares(struct table *t, const struct deal *good) {
         wipe(&t->set, b, d.of[1][2 * b], d.of[1][2 * b + 1]);
     }
     if (t->party[0].plan[1]) refuses(t, &d, 0, RIBBON_NO_ROOM, "A with empty shares");
+    else builds(t, &d, 0, "A with empty shares and no tubes");
     builds(t, &d, 1, "B beside empty shares");
 }
 
