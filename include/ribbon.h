@@ -76,8 +76,8 @@
  * buffers call one after the other: each call is lent the whole of them, and nothing is proved of two at once. The job and the records are only read.
  *
  * THE STACK is bounded by no theorem. ribbon_read_pdb keeps tables there and wants 700 KiB: it was seen to use 674,488 bytes. All other calls want 32 KiB:
- * ribbon_plan and ribbon_build were seen to use less than 8, ribbon_write_stl and ribbon_read_stl less than 1. A thread with too little crashes. glibc gives a
- * thread 8 MiB, musl 128 KiB: where a thread is to read files, give it more, by pthread_attr_setstacksize(&attributes, 1 << 20).
+ * ribbon_plan and ribbon_build, and the two calls of parties, were seen to use less than 8, ribbon_write_stl and ribbon_read_stl less than 1. A thread with too
+ * little crashes. glibc gives a thread 8 MiB, musl 128 KiB: where a thread is to read files, give it more, by pthread_attr_setstacksize(&attributes, 1 << 20).
  *
  * A NaN in a place that no call writes: the proofs know one NaN, so they do not speak of its bits. The code does not touch the place. For the same reason a
  * NaN in an STL file is listed as a NaN, and its bits are not promised; they were seen to be 7FC00000, whatever the file's were. */
