@@ -1,5 +1,5 @@
-// The calls of one of two parties on one structure (02 §5). Nothing is demanded of whoever calls them; what they promise, `BuildsShare` and `PlansRecords`, stands in
-// party_promises/specs/Calls. Atoms, residues and chains are one shared job with no segments; each party has its own segment records.
+// The calls of one of two parties on one structure (02 §5). Nothing is demanded of whoever calls them; what they promise, `BuildsShare` and `PlansRecords`,
+// stands in party_promises/specs/Calls. Atoms, residues and chains are one shared job with no segments; each party has its own segment records.
 use job::Checked;
 use job::Refusal;
 use promises::Built;
@@ -39,7 +39,8 @@ fn build_within(
     ensures { λ r. ⌜ (r ≡ buildChecks h (tubesWith (now (b .entry)) h (now (q .entry)))
         (lent (buffers (shareOf mine (held positions normals tags triangles tubes boxes)) (now (words .entry)) (now (floats .entry)))))
         × (holds positions normals tags triangles tubes boxes ≡ withShare mine (held positions normals tags triangles tubes boxes)
-        (outsBy r (proteinOf (now (b .entry)) h) (tubesWith (now (b .entry)) h (now (q .entry))) (shareOf mine (held positions normals tags triangles tubes boxes))))
+        (outsBy r (proteinOf (now (b .entry)) h) (tubesWith (now (b .entry)) h (now (q .entry)))
+        (shareOf mine (held positions normals tags triangles tubes boxes))))
         × (scratch (now (words .exit)) (now (floats .exit)) ≡ scratchPast h (scratch (now (words .entry)) (now (floats .entry)))) ⌝ }
 {
     let a0 = mine.positions.start;
