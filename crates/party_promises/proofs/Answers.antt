@@ -3,7 +3,7 @@ use Prim.Native.Nat.{ℕ, _*_, _<_, _≤_}
 use mathlib.Core.Bool.{Bool, true, false, cond}
 use mathlib.Core.List.{List}
 use mathlib.Core.Logic.{_⊎_, inl, inr, ⊎-elim}
-use mathlib.Core.Path.{_≡_, refl, sym, _∙_, ap, subst}
+use mathlib.Core.Path.{_≡_, refl, sym, _∙_, ap}
 use native.Mathlib.Omega.{arith}
 use lib.ListN.{length, take}
 use Rattle.edges.specs.Sound.{Sound}
@@ -25,7 +25,7 @@ use Rattle.buffers.specs.declared.Counts.{Counts}
 use Rattle.shares.specs.declared.Shares.{Shares}
 use Rattle.shares.specs.Shares.{badShares, shareSizes, shareOf, Fits, Apart}
 use Rattle.shares.proofs.Laws.{good-fits, fits-good, bad-sym, sizes-share}
-use Rattle.room.specs.Room.{Lent, Scratch, Buffers, lent, shortScratch, tooMany, cleared, scratchPast}
+use Rattle.room.specs.Room.{Scratch, Buffers, lent, shortScratch, tooMany, cleared, scratchPast}
 use Rattle.promises.specs.declared.Built.{Built}
 use Rattle.promises.specs.declared.Built.the-variants.{Mesh, NoMesh}
 use Rattle.promises.specs.declared.Planned.{Planned}
@@ -37,7 +37,7 @@ use Rattle.promises.proofs.Numbered.{UpTo, shared-numbered}
 use Rattle.promises.proofs.Numbered as numbered
 use Rattle.promises.proofs.Checks.{mesh-or-not, plan-or-not, same-refusal}
 use Rattle.promises.proofs.Demands as base
-use Rattle.party_promises.specs.Calls.{shareLent, shareChecks, sharedBy, shareScratch, recordsAnswer, BuildsShare, PlansRecords}
+use Rattle.party_promises.specs.Calls.{shareChecks, sharedBy, shareScratch, recordsAnswer, BuildsShare, PlansRecords}
 use Rattle.party_promises.specs.Parties.{AllBytes, Shared, PassesShared, GoodShares, inShare, NoShorterShares, at, Called}
 use Rattle.party_promises.proofs.Ladder.{bad-first, good-then}
 use Rattle.party_promises.proofs.Sharing.{answer-is, called-other, alike}

@@ -1,39 +1,36 @@
 -- 02 §5: a party's call 'answers as the job with those records would in that share'. Assumes nothing.
-use Prim.Native.Nat.{ℕ, _<_}
-use mathlib.Core.Bool.{Bool, true, false, cond}
+use Prim.Native.Nat.{ℕ}
+use mathlib.Core.Bool.{Bool, cond}
 use mathlib.Core.List.{List}
 use mathlib.Core.Path.{_≡_, refl, sym, _∙_, ap, subst}
-use native.Mathlib.Omega.{arith}
 use lib.ListN.{length}
-use Rattle.protein.specs.Layout.{headOf, recordsOf}
+use Rattle.protein.specs.Layout.{headOf}
 use Rattle.protein.specs.Protein.{Protein, proteinOf}
-use Rattle.protein.specs.Job.{segmentsOf}
 use Rattle.protein.specs.declared.Head.{Head}
 use Rattle.tubes.specs.Tubes.{Tube}
-use Rattle.job.specs.Check.{check, checkShared, sharedSizes}
+use Rattle.job.specs.Check.{checkShared, sharedSizes}
 use Rattle.job.specs.declared.Checked.{Checked}
 use Rattle.job.specs.declared.Checked.the-variants.{Fine, Refused}
 use Rattle.job.specs.declared.Refusal.{Refusal}
-use Rattle.job.specs.declared.Refusal.the-variants.{BadShares}
 use Rattle.job.proofs.Laws.{shared-sizes}
 use Rattle.job.proofs.Accepted.{shared-parts}
 use Rattle.joined.specs.Joined.{withRecords, withSegments}
 use Rattle.joined.proofs.Joined.{joined-records, joined-protein, joined-refused, joined-fine, few-atoms}
 use Rattle.buffers.specs.Outs.{Outs, Sizes, sizesOf}
 use Rattle.shares.specs.declared.Shares.{Shares}
-use Rattle.shares.specs.Shares.{badShares, shareSizes, shareOf, withShare, Fits}
+use Rattle.shares.specs.Shares.{badShares, shareOf, Fits}
 use Rattle.shares.proofs.Laws.{good-fits, sizes-share, share-with}
 use Rattle.room.specs.Room.{Lent, Scratch, Buffers, lent, shortScratch, scratchPast}
 use Rattle.promises.specs.declared.Built.{Built}
 use Rattle.promises.specs.declared.Built.the-variants.{Mesh, NoMesh}
 use Rattle.promises.specs.declared.Planned.{Planned}
 use Rattle.promises.specs.declared.Planned.the-variants.{NoPlan}
-use Rattle.promises.specs.Calls.{tubesWith, jobTubes, buildChecks, buildAnswer, filled, outsBy, outsAfter, planChecks, planAnswer, scratchAfter, Builds, Plans}
+use Rattle.promises.specs.Calls.{tubesWith, jobTubes, buildChecks, filled, outsBy, planChecks, Builds, Plans}
 use Rattle.promises.proofs.Told.{planned-told}
 use Rattle.promises.proofs.Kept.{builds-passed, builds-refused, plans-passed, plans-refused}
-use Rattle.party_promises.specs.Calls.{shareLent, shareChecks, shareAnswer, sharedBy, shareOuts, shareScratch, recordsAnswer, recordsScratch, BuildsShare, PlansRecords}
+use Rattle.party_promises.specs.Calls.{shareChecks, shareAnswer, sharedBy, shareOuts, shareScratch, recordsAnswer, recordsScratch, BuildsShare, PlansRecords}
 use Rattle.party_promises.specs.Parties.{AllBytes, Shared, PassesShared, GoodShares, inShare}
-use Rattle.party_promises.proofs.Ladder.{good-then}
+use Rattle.party_promises.proofs.Ladder.{good-share}
 use Rattle.party_promises.proofs.Sharing.{answer-is, filled-sizes}
 
 -- ---- what a party's job passes
@@ -120,14 +117,8 @@ module _ (s q : List ℕ) (h : Head) (e : checkShared s q ≡ Fine h) where
     F : Fits m (b .outs)
     F = good-fits m k (b .outs) g .0
 
-    us : List Tube
-    us = tubesWith s h q
-
-    lent-same : shareLent m (lent b) ≡ lent (inShare m b)
-    lent-same = ap (λ (z : Sizes). record { outs = z; words = length (b .scratch .words); floats = length (b .scratch .floats) }) (sym (sizes-share m (b .outs) F))
-
     checked : shareChecks h (tubesWith s h q) m k (lent b) ≡ buildChecks h (tubesWith s h q) (lent (inShare m b))
-    checked = good-then h (tubesWith s h q) m k (lent b) g ∙ ap (buildChecks h (tubesWith s h q)) lent-same
+    checked = good-share h (tubesWith s h q) m k b g
 
     pub result-is : r ≡ buildChecks h (tubesWith s h q) (lent (inShare m b))
     result-is = answer-is B ∙ answer-passed s q m k h e (lent b) ∙ checked

@@ -1,6 +1,6 @@
 -- How the promises are kept: by a refusal of checks 1 to 8, by 20, and by what comes after them. The calls' own proofs use these. Assumes nothing.
 use Prim.Native.Nat.{ℕ}
-use mathlib.Core.Bool.{Bool, true, false, cond}
+use mathlib.Core.Bool.{Bool, true, cond}
 use mathlib.Core.List.{List}
 use mathlib.Core.Path.{_≡_, refl, sym, _∙_, ap}
 use lib.ListN.{length}
@@ -11,19 +11,19 @@ use Rattle.job.specs.declared.Checked.the-variants.{Fine, Refused}
 use Rattle.job.specs.declared.Refusal.{Refusal}
 use Rattle.job.specs.declared.Refusal.the-variants.{BadShares}
 use Rattle.tubes.specs.Tubes.{Tube}
-use Rattle.buffers.specs.Outs.{Outs, Sizes, sizesOf}
+use Rattle.buffers.specs.Outs.{Outs, sizesOf}
 use Rattle.shares.specs.declared.Shares.{Shares}
 use Rattle.shares.specs.Shares.{badShares, shareOf, withShare}
-use Rattle.shares.proofs.Laws.{good-fits, sizes-share, with-share}
-use Rattle.room.specs.Room.{Lent, Scratch, Buffers, lent, scratchPast}
+use Rattle.shares.proofs.Laws.{with-share}
+use Rattle.room.specs.Room.{Scratch, Buffers, lent, scratchPast}
 use Rattle.promises.specs.declared.Built.{Built}
 use Rattle.promises.specs.declared.Built.the-variants.{Mesh, NoMesh}
 use Rattle.promises.specs.declared.Planned.{Planned}
 use Rattle.promises.specs.declared.Planned.the-variants.{NoPlan}
 use Rattle.promises.specs.Calls.{tubesWith, buildChecks, outsBy, planChecks}
-use Rattle.party_promises.specs.Calls.{shareLent, shareChecks, shareAnswer, sharedBy, shareOuts, shareScratch, recordsAnswer, recordsScratch, BuildsShare, PlansRecords}
+use Rattle.party_promises.specs.Calls.{shareChecks, shareAnswer, sharedBy, shareOuts, shareScratch, recordsAnswer, recordsScratch, BuildsShare, PlansRecords}
 use Rattle.party_promises.specs.Parties.{GoodShares, inShare}
-use Rattle.party_promises.proofs.Ladder.{bad-first, good-then}
+use Rattle.party_promises.proofs.Ladder.{bad-first, good-share}
 use Rattle.party_promises.proofs.AsJob.{answer-refused, outs-left, scratch-left, answer-passed, outs-passed, scratch-passed, plan-refused, plan-left, records-passed}
 
 pub share-refused : (s q : List ℕ) (m k : Shares) (b : Buffers) (r : Refusal) → checkShared s q ≡ Refused r → BuildsShare s q m k b (NoMesh r) b
@@ -46,11 +46,6 @@ module _ (s q : List ℕ) (m k : Shares) (h : Head) (e : checkShared s q ≡ Fin
       record { answer = cc; outputs = cc; scratch = cc }
 
   -- 9 to 11, and the mesh, in the share
-  good-checks : (b : Buffers) → GoodShares (b .outs) m k → shareChecks h (tubesWith s h q) m k (lent b) ≡ buildChecks h (tubesWith s h q) (lent (inShare m b))
-  good-checks b g =
-      good-then h (tubesWith s h q) m k (lent b) g ∙ ap (λ (z : Sizes). buildChecks h (tubesWith s h q) (record { outs = z; words = length (b .scratch .words); floats = length (b .scratch .floats) }))
-      (sym (sizes-share m (b .outs) (good-fits m k (b .outs) g .0)))
-
   back-by : (r : Built) (P : Protein) (us : List Tube) (o : Outs) → withShare m o (outsBy r P us (shareOf m o)) ≡ sharedBy r P us m o
   back-by (NoMesh r) P us o = with-share m o
   back-by (Mesh c) P us o = refl
@@ -59,7 +54,7 @@ module _ (s q : List ℕ) (m k : Shares) (h : Head) (e : checkShared s q ≡ Fin
       → b' .outs ≡ withShare m (b .outs) (outsBy r (proteinOf s h) (tubesWith s h q) (shareOf m (b .outs))) → b' .scratch ≡ scratchPast h (b .scratch)
       → BuildsShare s q m k b r b'
   share-passed b b' r g e' w f =
-      let x : r ≡ shareChecks h (tubesWith s h q) m k (lent b) = e' ∙ sym (good-checks b g) in
+      let x : r ≡ shareChecks h (tubesWith s h q) m k (lent b) = e' ∙ sym (good-share h (tubesWith s h q) m k b g) in
       let a : r ≡ shareAnswer s q m k (lent b) = x ∙ sym (answer-passed s q m k h e (lent b)) in
       let o : b' .outs ≡ shareOuts s q m k (lent b) (b .outs)
       = w ∙ back-by r (proteinOf s h) (tubesWith s h q) (b .outs) ∙ ap (λ (y : Built). sharedBy y (proteinOf s h) (tubesWith s h q) m (b .outs)) x

@@ -1,32 +1,30 @@
 -- What a call of a party does to the buffers: nothing, or its own share alone; and calls of one party after the other. Assumes nothing.
 use Prim.Native.Nat.{ℕ, _+_, _≤_}
-use mathlib.Core.Bool.{Bool, true, false, cond}
+use mathlib.Core.Bool.{Bool, true, false}
 use mathlib.Core.List.{List}
 use mathlib.Core.Logic.{_⊎_, inl, inr, ⊎-elim}
 use mathlib.Core.Path.{_≡_, refl, sym, _∙_, ap, subst}
-use lib.ListN.{length, getD}
+use lib.ListN.{length}
 use Rattle.lists.proofs.Puts.{kept}
 use Rattle.protein.specs.declared.Head.{Head}
 use Rattle.protein.specs.Protein.{Protein, proteinOf}
 use Rattle.job.specs.Check.{checkShared}
 use Rattle.job.specs.declared.Checked.{Checked}
 use Rattle.job.specs.declared.Checked.the-variants.{Fine, Refused}
-use Rattle.job.specs.declared.Refusal.{Refusal}
-use Rattle.job.specs.declared.Refusal.the-variants.{BadShares}
 use Rattle.tubes.specs.Tubes.{Tube}
 use Rattle.buffers.specs.Outs.{Outs, Sizes, sizesOf}
 use Rattle.shares.specs.declared.Share.{Share}
 use Rattle.shares.specs.declared.Shares.{Shares}
-use Rattle.shares.specs.Shares.{badShares, shareSizes, shareOf, withShare, within, Fits, Apart}
-use Rattle.shares.proofs.Laws.{good-fits, bad-sym, sizes-same, sizes-share, sizes-with, share-with, share-apart, length-within, outside}
-use Rattle.room.specs.Room.{Lent, Scratch, Buffers, lent, scratchPast}
+use Rattle.shares.specs.Shares.{badShares, shareSizes, shareOf, withShare, within, Fits}
+use Rattle.shares.proofs.Laws.{good-fits, sizes-same, sizes-share, sizes-with, share-with, share-apart, length-within, outside}
+use Rattle.room.specs.Room.{Lent, Buffers, lent}
 use Rattle.promises.specs.declared.Built.{Built}
 use Rattle.promises.specs.declared.Built.the-variants.{Mesh, NoMesh}
 use Rattle.promises.specs.Calls.{byCheck, tubesWith, buildChecks, filled}
 use Rattle.promises.proofs.Told.{built-told}
-use Rattle.party_promises.specs.Calls.{afterShared, shareLent, shareChecks, shareAnswer, sharedBy, shareOuts, shareScratch, BuildsShare}
+use Rattle.party_promises.specs.Calls.{shareLent, shareChecks, shareAnswer, sharedBy, shareOuts, BuildsShare}
 use Rattle.party_promises.proofs.Ladder.{bad-first, good-then}
-use Rattle.party_promises.specs.Parties.{GoodShares, SameOutside, OutsideOf, Outside, at, Called, none, then}
+use Rattle.party_promises.specs.Parties.{GoodShares, SameOutside, Outside, Called, none, then}
 
 -- what a promise says of an answer's numbers it says of the answer
 pub answer-is : {s q : List ℕ} {m k : Shares} {b b' : Buffers} {r : Built} → BuildsShare s q m k b r b' → r ≡ shareAnswer s q m k (lent b)

@@ -1,4 +1,3 @@
-use Prim.Native.Nat.{ℕ}
 use mathlib.Core.Path.{_∙_, ap}
 use native.Mathlib.Omega.{arith}
 use Rattle.protein.specs.Protein.{proteinOf}
@@ -6,7 +5,6 @@ use Rattle.buffers.specs.Outs.{Outs, outs}
 use Rattle.shares.proofs.Laws.{parts-as, lent-back}
 use Rattle.room.specs.Room.{lent, buffers}
 use Rattle.promises.specs.Calls.{tubesWith, buildChecks, outsBy}
-use borrow.Author.Needs.{needs}
 use Rattle.parties.proofs.build_within.Statement.{statement}
 use Rattle.parties.proofs.build_within.Tie as tie
 
@@ -87,22 +85,28 @@ build-within-spec =
     add-e4
     add-e5
     mul-build-checked
-    (λ c. omega arith) (λ c. omega arith)
+    (λ c. omega arith)
+    (λ c. omega arith)
     part-build-checked-end
     mul-build-checked-2
-    (λ c. omega arith) (λ c. omega arith)
+    (λ c. omega arith)
+    (λ c. omega arith)
     part-build-checked-end-2
     mul-build-checked-3
-    (λ c. omega arith) (λ c. omega arith)
+    (λ c. omega arith)
+    (λ c. omega arith)
     part-build-checked-end-3
     mul-build-checked-4
-    (λ c. omega arith) (λ c. omega arith)
+    (λ c. omega arith)
+    (λ c. omega arith)
     part-build-checked-end-4
     mul-build-checked-5
-    (λ c. omega arith) (λ c. omega arith)
+    (λ c. omega arith)
+    (λ c. omega arith)
     part-build-checked-end-5
     mul-build-checked-6
-    (λ c. omega arith) (λ c. omega arith)
+    (λ c. omega arith)
+    (λ c. omega arith)
     part-build-checked-end-6
     build-checked-requires
     (λ c. c .before .before .before .before .before .before .before .before .before .before .before .before .before .before .before .positions .given .1)
@@ -111,5 +115,6 @@ build-within-spec =
     (λ c. c .before .before .before .before .before .before .before .before .before .triangles .given .1)
     (λ c. c .before .before .before .before .before .before .before .tubes .given .1)
     (λ c. c .before .before .before .before .before .boxes .given .1)
-    (λ c. omega arith) (λ c. omega arith)
+    (λ c. omega arith)
+    (λ c. omega arith)
     returns)
