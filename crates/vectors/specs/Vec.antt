@@ -7,6 +7,8 @@ use lib.Ieee.{Float, nan, binary32, ofBits, add, sub, mul, div, eq}
 use Rattle.floats.specs.Floats.{root}
 use Rattle.lists.specs.Put.{upto}
 use Rattle.vectors.specs.declared.Vec3.{Vec3}
+use Rattle.vectors.specs.declared.Direction.{Direction}
+use Rattle.vectors.specs.declared.Direction.the-variants.{Along, Nowhere}
 
 abbrev pub f+ : Float → Float → Float
 f+ a b = add binary32 a b
@@ -61,7 +63,19 @@ vcross a b =
 unfoldable pub vlength : Vec3 → Float
 vlength a = root binary32 (vdot a a)
 
--- 01: 'Normalising: components times (1 / length); length 0 gives the zero vector', for the length l
+-- 02 §6: 'Normalising a vector of length 0 must say that there is no direction', for the length l as it is computed, so that squares that vanish count
+abbrev pub directionBy : Vec3 → Float → Direction
+directionBy a l = cond (eq l (lit 0)) Nowhere (Along (vscale a (f/ one l)))
+
+unfoldable pub directionOf : Vec3 → Direction
+directionOf a = directionBy a (vlength a)
+
+-- a direction, or v where there is none
+abbrev pub orElse : Direction → Vec3 → Vec3
+orElse (Along w) v = w
+orElse Nowhere v = v
+
+-- 01: 'Normalising: components times (1 / length); length 0 gives the zero vector', for the length l. 02 §6: 'every other user answers as now'
 abbrev pub normalisedBy : Vec3 → Float → Vec3
 normalisedBy a l = cond (eq l (lit 0)) vzero (vscale a (f/ one l))
 

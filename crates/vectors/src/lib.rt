@@ -2,13 +2,19 @@
 ghost use mathlib.Core.Path.{_≡_};
 ghost use Prim.Native.Nat.{_+_, _*_, _≤_};
 ghost use lib.ListN.{length};
-ghost use Rattle.vectors.specs.Vec.{vadd, vsub, vscale, vdot, vcross, vlength, normalisedBy, normalised, floats, vecAt};
+ghost use Rattle.vectors.specs.Vec.{vadd, vsub, vscale, vdot, vcross, vlength, directionBy, directionOf, normalisedBy, normalised, floats, vecAt};
 ghost use Rattle.lists.specs.Put.{put};
 
 pub struct Vec3 {
     pub x: f32,
     pub y: f32,
     pub z: f32,
+}
+
+// Where a vector points: nowhere, where its length is 0.
+pub enum Direction {
+    Along(Vec3),
+    Nowhere,
 }
 
 impl Vec3 {
@@ -64,24 +70,42 @@ impl Vec3 {
         floats::root::square_root(self.dot(self))
     }
 
+    pub fn direction(self) -> Direction
+        ensures { λ r. ⌜ r ≡ directionOf self ⌝ }
+    {
+        self.direction_by(self.length())
+    }
+
+    // The same, where the length is at hand. Nothing else normalises: whoever needs a direction sees that there may be none.
+    pub fn direction_by(self, l: f32) -> Direction
+        ensures { λ r. ⌜ r ≡ directionBy self l ⌝ }
+    {
+        if l == 0.0 {
+            return Direction::Nowhere;
+        }
+        Direction::Along(self.scale(1.0 / l))
+    }
+
+    // The direction, and the zero vector where there is none: the Rust's answer, which all but an end cap take.
     pub fn normalised(self) -> Vec3
         ensures { λ r. ⌜ r ≡ normalised self ⌝ }
     {
         self.normalised_by(self.length())
     }
 
-    // The same, where the length is at hand. Length 0 is a case of its own: it has no direction.
+    // The same, where the length is at hand.
     pub fn normalised_by(self, l: f32) -> Vec3
         ensures { λ r. ⌜ r ≡ normalisedBy self l ⌝ }
     {
-        if l == 0.0 {
-            return Vec3 {
+        let d = self.direction_by(l);
+        match d {
+            Direction::Along(v) => v,
+            Direction::Nowhere => Vec3 {
                 x: 0.0,
                 y: 0.0,
                 z: 0.0,
-            };
+            },
         }
-        self.scale(1.0 / l)
     }
 }
 
