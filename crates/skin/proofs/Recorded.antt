@@ -8,7 +8,7 @@ use lib.Dec.{T}
 use lib.ListN.{getD}
 use lib.Ieee.{Float, binary32, toBits, ofBits, ofFields, odd, span, climb, size, units, round, sum, add, sub, neg, mul, div, ofInt, lt, eq, le, isNan}
 use Rattle.floats.specs.Floats.{root, nearestRoot, floorRoot, rootDigits, greater, absolute}
-use Rattle.vectors.specs.Vec.{vadd, vsub, vscale, vcross, vdot, vlength, normalised, vecAt, lit, floats, eight}
+use Rattle.vectors.specs.Vec.{vadd, vsub, vscale, vcross, vdot, vlength, normalised, directionOf, vecAt, lit, floats, eight}
 use Rattle.lists.specs.Put.{put, upto}
 use Rattle.shape.specs.declared.Kind.{Kind}
 use Rattle.shape.specs.declared.Kind.the-variants.{Helix, Sheet}
@@ -20,7 +20,8 @@ use Rattle.shape.specs.Ring.{cosBits, sinBits, cosAt, sinAt, halfSizes, inArrow
 use Rattle.smooth.specs.Pass.{guidePass, positionPass, repeated, smoothGuides, smoothPositions}
 use Rattle.curve.specs.Residues.{tangentAt, rawAt, signedAt, signed, sumOf, same, settled, guidesOf, pointsOf}
 use Rattle.curve.specs.Samples.{spanOf, spanAt, paramAt, frameOf, frameAt, ringAt}
-use Rattle.skin.specs.Tube.{ordered, ringPositions, ringNormals, startNormal, endNormal, skinPositions, skinNormals}
+use Rattle.skin.specs.Tube.{ordered, ringPositions, ringNormals, startNormal, skinPositions, skinNormals}
+use Rattle.caps.specs.Caps.{chord, endNormalBy, endNormal}
 use Rattle.lists.specs.Same.{sameList}
 
 -- the C-alphas and the oxygens
@@ -41,12 +42,12 @@ pub data Case : Type 0 where
   caps : Kind → List ℕ → Case
 
 unfoldable pub holds : Case → Bool
-unfolding sameList words bent oxygens skinPositions skinNormals ordered eight ringPositions ringNormals startNormal endNormal frameAt frameOf spanOf spanAt paramAt ringAt pointsOf guidesOf settled smoothGuides smoothPositions repeated guidePass positionPass signed signedAt rawAt tangentAt sumOf same fallbackPerp across upright computeGuide rawGuide orUp tangentOf directed agreeing weighted smoothGuide smoothPosition between bend twist catmullRom catmullRomTangent cosBits sinBits cosAt sinAt halfSizes inArrow arrow profileOf steep spokeAt spokesOf pointOn normalOn ringOver crossSection vecAt upto put vadd vsub vscale vcross vdot vlength normalised root nearestRoot floorRoot rootDigits greater absolute isNan lt eq le toBits ofBits ofFields odd span climb size units round sum add sub neg mul div ofInt trailingZeros
+unfolding sameList words bent oxygens skinPositions skinNormals ordered eight ringPositions ringNormals startNormal endNormal endNormalBy chord frameAt frameOf spanOf spanAt paramAt ringAt pointsOf guidesOf settled smoothGuides smoothPositions repeated guidePass positionPass signed signedAt rawAt tangentAt sumOf same fallbackPerp across upright computeGuide rawGuide orUp tangentOf directed agreeing weighted smoothGuide smoothPosition between bend twist catmullRom catmullRomTangent cosBits sinBits cosAt sinAt halfSizes inArrow arrow profileOf steep spokeAt spokesOf pointOn normalOn ringOver crossSection vecAt upto put vadd vsub vscale vcross vdot vlength normalised directionOf root nearestRoot floorRoot rootDigits greater absolute isNan lt eq le toBits ofBits ofFields odd span climb size units round sum add sub neg mul div ofInt trailingZeros
 holds (ring kind s p q) =
     sameList (words (ringPositions kind (pointsOf kind bent 3) (guidesOf kind bent oxygens 3) 3 s)) p
     && sameList (words (ringNormals kind (pointsOf kind bent 3) (guidesOf kind bent oxygens 3) 3 s)) q
 holds (caps kind ws) =
-    sameList (words (floats (startNormal (pointsOf kind bent 3) (guidesOf kind bent oxygens 3) 3) ++ floats (endNormal (pointsOf kind bent 3) 3))) ws
+    sameList (words (floats (startNormal (pointsOf kind bent 3) (guidesOf kind bent oxygens 3) 3) ++ floats (endNormal (pointsOf kind bent 3) (guidesOf kind bent oxygens 3) 3))) ws
 
 unfoldable pub every : List Case → Bool
 unfolding holds

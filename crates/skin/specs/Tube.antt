@@ -4,12 +4,13 @@ use Prim.Native.Nat.{ℕ, _+_, _*_, _-_}
 use lib.ListN.{replicate}
 use lib.Ieee.{Float, neg}
 use Rattle.vectors.specs.declared.Vec3.{Vec3}
-use Rattle.vectors.specs.Vec.{vsub, vscale, normalised, one, floats, vecAt, eight}
+use Rattle.vectors.specs.Vec.{vscale, one, floats, eight}
 use Rattle.lists.specs.Put.{upto}
 use Rattle.shape.specs.declared.Kind.{Kind}
 use Rattle.shape.specs.declared.Oxygen.{Oxygen}
 use Rattle.curve.specs.Residues.{guidesOf, pointsOf}
 use Rattle.curve.specs.Samples.{frameAt, ringAt, tagAt}
+use Rattle.caps.specs.Caps.{endNormal}
 
 -- 01: 'Vertices: ring, start centre, later rings, end centre', and 'There are 8(n-1)+1 samples', a ring each: ring 0 and 8(n-1) later ones
 unfoldable pub ordered : {A : Type 0} → ℕ → (ℕ → List A) → List A → List A → List A
@@ -29,16 +30,12 @@ ringTags first n s = replicate 8 (tagAt first n s)
 unfoldable pub startNormal : List Float → List Float → ℕ → Vec3
 startNormal p g n = vscale (frameAt p g n 0 .tangent) (neg one)
 
--- 01: 'end cap: the last normalised chord of the spline points'
-unfoldable pub endNormal : List Float → ℕ → Vec3
-endNormal p n = normalised (vsub (vecAt p (n - 1)) (vecAt p (n - 2)))
-
 unfoldable pub skinPositions : Kind → List Float → List Float → ℕ → List Float
 skinPositions kind p g n =
     ordered n (ringPositions kind p g n) (floats (frameAt p g n 0 .position)) (floats (frameAt p g n (8 * (n - 1)) .position))
 
 unfoldable pub skinNormals : Kind → List Float → List Float → ℕ → List Float
-skinNormals kind p g n = ordered n (ringNormals kind p g n) (floats (startNormal p g n)) (floats (endNormal p n))
+skinNormals kind p g n = ordered n (ringNormals kind p g n) (floats (startNormal p g n)) (floats (endNormal p g n))
 
 -- THE shape of a tube: of its kind, its n C-alphas and its oxygens
 unfoldable pub positionsOf : Kind → List Float → (ℕ → Oxygen) → ℕ → List Float

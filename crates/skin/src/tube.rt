@@ -1,6 +1,7 @@
 // The vertices of one tube: a capped ring, the rings between, and a capped ring.
 use boxes::Bounds;
 use boxes::begun;
+use caps::end_normal;
 use curve::residues::lay_course;
 use curve::samples::frame;
 use curve::samples::frame_at;
@@ -16,7 +17,6 @@ use shape::Spoke;
 use shape::guides::between;
 use shape::section::half_sizes;
 use shape::section::spokes;
-use vectors::Vec3;
 use vectors::get_vec;
 ghost use mathlib.Core.Path.{_≡_};
 ghost use mathlib.Core.List.{[], _∷_, _++_};
@@ -27,8 +27,9 @@ ghost use Rattle.lists.specs.Put.{upto};
 ghost use Rattle.curve.specs.Residues.{oxygenAt, guidesOf, pointsOf};
 ghost use Rattle.curve.specs.Samples.{frameAt, tagAt};
 ghost use Rattle.edges.specs.Tube.{vertexCount};
+ghost use Rattle.caps.specs.Caps.{endNormal};
 ghost use Rattle.rings.specs.Post.{VertexRoom, Wrote, Began};
-ghost use Rattle.skin.specs.Tube.{ringPositions, ringNormals, ringTags, startNormal, endNormal, skinPositions, skinNormals, positionsOf, normalsOf, tagsOf};
+ghost use Rattle.skin.specs.Tube.{ringPositions, ringNormals, ringTags, startNormal, skinPositions, skinNormals, positionsOf, normalsOf, tagsOf};
 ghost use Rattle.skin.specs.Post.{Course, Residues};
 
 // The first ring and the start's centre. The box begins with the first vertex.
@@ -165,15 +166,6 @@ fn later_rings(
     bounds
 }
 
-fn end_normal(points: &[f32], n: usize) -> Vec3
-    requires { ⌜ (2 ≤ n) × (length (now points) ≡ 3 * n) ⌝ }
-    ensures { λ r. ⌜ r ≡ endNormal (now (points .entry)) n ⌝ }
-{
-    get_vec(points, n - 1)
-        .sub(get_vec(points, n - 2))
-        .normalised()
-}
-
 // The last ring and the end's centre.
 fn end_cap(
     points: &[f32],
@@ -192,7 +184,8 @@ fn end_cap(
     ensures { λ c. ⌜ Wrote corners (now (positions .entry)) (now (normals .entry)) (now (tags .entry)) v
         (ringPositions kind (now (points .entry)) (now (guides .entry)) n (8 * (n - 1))
         ++ floats (frameAt (now (points .entry)) (now (guides .entry)) n (8 * (n - 1)) .position))
-        (ringNormals kind (now (points .entry)) (now (guides .entry)) n (8 * (n - 1)) ++ floats (endNormal (now (points .entry)) n))
+        (ringNormals kind (now (points .entry)) (now (guides .entry)) n (8 * (n - 1))
+        ++ floats (endNormal (now (points .entry)) (now (guides .entry)) n))
         (ringTags first n (8 * (n - 1)) ++ ((first + (n - 1)) ∷ []))
         c (now (positions .exit)) (now (normals .exit)) (now (tags .exit)) ⌝ }
 {
@@ -201,9 +194,20 @@ fn end_cap(
     let r = ring(f, kind, n, s, spokes);
     let tag = tag_at(first, n, s);
     let p = f.position;
-    let chord = end_normal(points, n);
+    let normal = end_normal(points, n, f);
     let last = first + (n - 1) as u32;
-    put_capped(positions, normals, tags, v, r, tag, p, chord, last, corners)
+    put_capped(
+        positions,
+        normals,
+        tags,
+        v,
+        r,
+        tag,
+        p,
+        normal,
+        last,
+        corners,
+    )
 }
 
 // All vertices over spline points and guides. What a ring takes from its half-sizes alone is computed once.

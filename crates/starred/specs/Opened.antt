@@ -4,7 +4,7 @@ use Prim.Native.Nat.{ℕ}
 use lib.Count.{trailingZeros}
 use lib.Ieee.{toBits, ofBits, ofFields, odd, span, climb, size, units, round, sum, add, sub, neg, mul, div, ofInt, lt, eq, le, isNan}
 use Rattle.floats.specs.Floats.{narrowed, root, nearestRoot, floorRoot, rootDigits, greater, absolute}
-use Rattle.vectors.specs.Vec.{vadd, vsub, vscale, vcross, vdot, vlength, normalised, vecAt, eight}
+use Rattle.vectors.specs.Vec.{vadd, vsub, vscale, vcross, vdot, vlength, normalised, directionOf, vecAt, eight}
 use Rattle.lists.specs.Put.{put, upto}
 use Rattle.lists.specs.Search.{first, last}
 use Rattle.numbers.specs.Bytes.{u16At, u32At, u64At}
@@ -24,6 +24,7 @@ use Rattle.shape.specs.Ring as shape
 use Rattle.smooth.specs.Pass.{guidePass, positionPass, repeated, smoothGuides, smoothPositions}
 use Rattle.curve.specs.Residues.{tangentAt, rawAt, signedAt, signed, sumOf, same, settled, guidesOf, pointsOf}
 use Rattle.curve.specs.Samples.{spanOf, spanAt, paramAt, frameOf, frameAt, ringAt, tagAt}
+use Rattle.caps.specs.Caps as caps
 use Rattle.skin.specs.Tube as skin
 use Rattle.mesh.specs.Mesh as mesh
 
@@ -31,7 +32,7 @@ use Rattle.mesh.specs.Mesh as mesh
 unfoldable pub opensFloats : ℕ
 unfolding
     narrowed root nearestRoot floorRoot rootDigits greater absolute toBits ofBits ofFields odd span climb size units round sum add sub neg mul div ofInt
-    lt eq le isNan trailingZeros vadd vsub vscale vcross vdot vlength normalised far
+    lt eq le isNan trailingZeros vadd vsub vscale vcross vdot vlength normalised directionOf far
 opensFloats = 0
 
 -- the corners and the counts of a tube
@@ -61,7 +62,7 @@ unfoldable pub opensSkin : ℕ
 unfolding
     opensCourse shape.cosBits shape.sinBits shape.cosAt shape.sinAt shape.halfSizes shape.inArrow shape.arrow shape.profileOf shape.steep shape.spokeAt
     shape.spokesOf shape.pointOn shape.normalOn shape.ringOver shape.crossSection ringAt tagAt skin.ordered eight skin.ringPositions
-    skin.ringNormals skin.ringTags skin.startNormal skin.endNormal skin.skinPositions skin.skinNormals skin.positionsOf skin.normalsOf skin.tagsOf
+    skin.ringNormals skin.ringTags skin.startNormal caps.chord caps.endNormalBy caps.endNormal skin.skinPositions skin.skinNormals skin.positionsOf skin.normalsOf skin.tagsOf
 opensSkin = 0
 
 -- the positions and normals of a job's mesh
