@@ -16,11 +16,11 @@ use Rattle.job.specs.Coordinate.{within}
 use Rattle.lists.proofs.Bools.{eqb-sym}
 
 -- the range's test at a float
-ranged : Float → Bool
+unfoldable pub ranged : Float → Bool
 unfolding le
 ranged v = le (fin true 1 (pos 14)) v && le v (fin false 1 (pos 14))
 
-within-is : (x : ℕ) → within x ≡ ranged (ofBits binary64 x)
+pub within-is : (x : ℕ) → within x ≡ ranged (ofBits binary64 x)
 unfolding within ranged ofBits ofFields odd
 within-is x = refl
 
@@ -34,7 +34,7 @@ le-or a b = go (leb a b) refl
         let l = leb-false a b e in
         rw (le-ltb a b (omega arith), ne-eqb a b (λ q. omega arith))
 
-ranged-fin : (t : Bool) (n : ℕ) (d : ℤ) → ranged (fin t n d) ≡ leb (n * up d * 1) (16384 * down d)
+pub ranged-fin : (t : Bool) (n : ℕ) (d : ℤ) → ranged (fin t n d) ≡ leb (n * up d * 1) (16384 * down d)
 unfolding ranged le
 ranged-fin false n d =
     let p = down-pos d in

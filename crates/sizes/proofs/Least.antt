@@ -5,10 +5,11 @@ use Prim.Native.Nat.{ℕ, zero, suc, _+_, _-_, _*_, _/_, _^_, _≤_, _<_}
 use native.Mathlib.Nat.{zero-lt-suc, le-of-mul-le-mul-right, div-eq-of-lt, mul-lt-mul-of-pos-right, le-trans, le-of-eq, le-of-lt, lt-of-lt-of-le, lt-of-le-of-lt, lt-irrefl, one-mul, mul-one, mul-pos, mul-comm, mul-assoc, mul-right-comm, mul-mul-mul-comm, mul-le-mul, mul-le-mul-right, mul-le-mul-left, le-div-iff-mul-le}
 use native.Mathlib.Omega.{arith}
 use mathlib.Core.Bool.{Bool, true, false, not, cond, _&&_, _||_, Bool·beq, false≢true}
+use borrow.Author.Tests.{le-ltb}
 use lib.IntN.{ℤ, pos}
 use lib.Dec.{T, ltb, ltb→lt, nltb→le, eqb, eqb→eq, leb, leb→le, nleb→lt}
 use lib.Pow.{pow-add, pow-pos, pow-mono}
-use lib.Ieee.{Float, nan, inf, fin, Format, binary32, binary64, prec, emax, low, up, down, unlike, size, odd, units, round, mul, div, eq, level, ofBits}
+use lib.Ieee.{Float, nan, inf, fin, Format, binary32, binary64, prec, emax, low, up, down, unlike, size, odd, units, round, neg, sum, add, sub, mul, div, eq, level, ofBits}
 use lib.Ieee.Digits.{size-lt, size-le, size-reaches}
 use lib.Ieee.Bits.{is-false}
 use lib.Ieee.Fits.{two, two-le-pos, eq→eqb, up-pos, down-pos, round-is}
@@ -212,6 +213,24 @@ round-none f s a c h =
     last : (f : Format) (s : Bool) → units f s 0 0 ≡ fin s 0 (pos 0)
     last binary32 s = refl
     last binary64 s = refl
+
+-- a finite x less itself is +0
+pub sub-self : (s : Bool) (m : ℕ) (e : ℤ) → sub binary32 (fin s m e) (fin s m e) ≡ zeroF
+unfolding sub add neg sum
+sub-self s m e = go s (le-ltb (m * up e * down e) (m * up e * down e) (omega arith))
+  where
+    none : (a : ℕ) → a - a ≡ 0
+    none a = omega arith
+
+    last : (t : Bool) (a c : ℕ) → 0 < c → t ≡ false → round binary32 t (a - a) c ≡ zeroF
+    last t a c C e = ap (λ (b : Bool). round binary32 b (a - a) c) e ∙ ap (λ (d : ℕ). round binary32 false d c) (none a) ∙ round-none binary32 false 0 c C
+
+    go : (s : Bool) → ltb (m * up e * down e) (m * up e * down e) ≡ false
+        → cond (Bool·beq s (not s)) (round binary32 s (m * up e * down e + m * up e * down e) (down e * down e))
+        (cond (ltb (m * up e * down e) (m * up e * down e)) (round binary32 (not s) (m * up e * down e - m * up e * down e) (down e * down e))
+        (round binary32 (s && ltb (m * up e * down e) (m * up e * down e)) (m * up e * down e - m * up e * down e) (down e * down e))) ≡ zeroF
+    go true h = rw h (last false (m * up e * down e) (down e * down e) (mul-pos (down-pos e) (down-pos e)) refl)
+    go false h = rw h (last false (m * up e * down e) (down e * down e) (mul-pos (down-pos e) (down-pos e)) refl)
 
 pub faint-square : (x : Float) → faint x ≡ true → mul binary32 x x ≡ zeroF
 unfolding mul

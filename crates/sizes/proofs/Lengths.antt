@@ -18,9 +18,9 @@ use Rattle.floats.proofs.Squares.{sq-lt}
 use Rattle.floats.specs.Nearest.{IsNearest}
 use Rattle.floats.proofs.NearestRoot.{root-is-nearest}
 use Rattle.vectors.specs.declared.Vec3.{Vec3}
-use Rattle.vectors.specs.declared.Direction.{Direction}
-use Rattle.vectors.specs.declared.Direction.the-variants.{Along, Nowhere}
-use Rattle.vectors.specs.Vec.{vec, vscale, vdot, vlength, vzero, lit, one, f/, f*, f+, directionOf, orElse}
+use Rattle.vectors.specs.declared.Direction.the-variants.{Along}
+use Rattle.vectors.specs.Vec.{vec, vscale, vdot, vlength, vzero, lit, one, f/, f*, f+, directionOf}
+use Rattle.vectors.proofs.Directions.{along}
 use Rattle.sizes.proofs.Least.{zeroF, zero-is, NotZero, Least, least-lit, Most, one-is, mul-least, over-least, faint, not-faint, faint-square}
 
 -- ---- the root of what f32 holds is below 2 ^ 65
@@ -147,11 +147,11 @@ root-zero : root binary32 zeroF ≡ zeroF
 unfolding root
 root-zero = refl
 
-zero-dark : eq zeroF (lit 0) ≡ true
+pub zero-dark : eq zeroF (lit 0) ≡ true
 unfolding ofBits eq
 zero-dark = refl
 
-faint-length : (a : Vec3) → faint (a .x) ≡ true → faint (a .y) ≡ true → faint (a .z) ≡ true → vlength a ≡ zeroF
+pub faint-length : (a : Vec3) → faint (a .x) ≡ true → faint (a .y) ≡ true → faint (a .z) ≡ true → vlength a ≡ zeroF
 unfolding vlength vdot
 faint-length a h k l =
     ap (λ (u : Float). root binary32 (f+ (f+ u (f* (a .y) (a .y))) (f* (a .z) (a .z)))) (faint-square (a .x) h)
@@ -181,30 +181,10 @@ scaled-shines a h n = go (faint (a .x)) (faint (a .y)) (faint (a .z)) refl refl 
     go true true true b c d = absurd (true≢false (sym zero-dark ∙ sym (ap (λ (u : Float). eq u (lit 0)) (faint-length a b c d)) ∙ h))
 
 -- ---- THE theorem: a direction is not dark
-points : Direction → Bool
-points (Along v) = true
-points Nowhere = false
-
 pub direction-shines : (a v : Vec3) → directionOf a ≡ Along v → (vlength a ≡ inf false → ⊥) → Shines v
-unfolding directionOf points
-direction-shines a v e n = go (eq (vlength a) (lit 0)) refl e
-  where
-    go : (b : Bool) → eq (vlength a) (lit 0) ≡ b → cond b Nowhere (Along (vscale a (f/ one (vlength a)))) ≡ Along v → Shines v
-    go true h k = absurd (false≢true (ap points k))
-    go false h k = subst Shines (ap (λ (d : Direction). orElse d vzero) k) (scaled-shines a h n)
+direction-shines a v e n = let k = along a v e in subst Shines (sym (k .1)) (scaled-shines a (k .0) n)
 
-pub direction-not-zero : (a v : Vec3) → directionOf a ≡ Along v → (vlength a ≡ inf false → ⊥) → v ≡ vzero → ⊥
-direction-not-zero a v e n = shines-not-zero v (direction-shines a v e n)
-
--- ---- the same under the bound by value, 2 ^ 64, which no finite root passes
-short-finite : (l : Float) → le l (lit 0x5f800000) ≡ true → l ≡ inf false → ⊥
-unfolding le ofBits
-short-finite l h e = false≢true (sym (ap (λ (u : Float). le u (lit 0x5f800000)) e) ∙ h)
-
-pub short-shines : (a v : Vec3) → directionOf a ≡ Along v → le (vlength a) (lit 0x5f800000) ≡ true → Shines v
-short-shines a v e h = direction-shines a v e (short-finite (vlength a) h)
-
--- and a bound is needed: (2 ^ 65, 0, 0) has a length of infinity, and 1 over it is 0
+-- a bound is needed: (2 ^ 65, 0, 0) has a length of infinity, and 1 over it is 0
 pub bound-needed : directionOf (vec (lit 0x60000000) (lit 0) (lit 0)) ≡ Along vzero
 unfolding directionOf vlength vdot vscale root add mul div eq ofBits
 bound-needed = refl

@@ -1,12 +1,10 @@
--- Sizes, by powers of two: what is at most 2 ^ j in size rounds to at most 2 ^ j, so a sum is one power more, and a product has the sum of the two. With it, of a vector of
--- finite components its length is finite, and so is its direction. Assumes nothing.
+-- Sizes from above, by powers of two: what is at most 2 ^ j in size rounds to at most 2 ^ j, so a sum is one power more, and a product has the sum of the two. So a vector
+-- whose components are finite and not too large has a length that is no infinity, and a direction whose components are finite. Assumes nothing.
 use mathlib.Core.Path.{_≡_, refl, sym, ap, _∙_, subst}
 use Prim.Native.Nat.{ℕ, zero, suc, _+_, _-_, _*_, _/_, _%_, _^_, _≤_, _<_}
 use native.Mathlib.Nat.{two-pow-succ, not-suc-le-zero, le-of-suc-le-suc, le-refl, le-trans, le-of-eq, lt-of-lt-of-le, lt-of-le-of-lt, lt-irrefl, zero-mul, one-mul, mul-one, mul-pos, mul-comm, mul-assoc, mul-right-comm, mul-mul-mul-comm, mul-le-mul, mul-le-mul-right, le-of-mul-le-mul-right, div-lt-iff-lt-mul, div-one, add-mul, mul-lt-mul-of-pos-right}
 use native.Mathlib.Omega.{arith}
 use mathlib.Core.Bool.{Bool, true, false, cond, Bool·beq, _&&_, _||_, true≢false}
-use mathlib.Core.List.{List, [], _∷_, _++_}
-use lib.ListN.{length, getD, set}
 use lib.IntN.{ℤ}
 use lib.Dec.{T, ltb, eqb, eqb→eq, lit≤}
 use lib.Pow.{pow-add, pow-pos, pow-mono, pow-lt}
@@ -20,10 +18,11 @@ use lib.Ieee.Positive.{first-pos}
 use Rattle.floats.specs.Floats.{root}
 use Rattle.floats.proofs.Closest.{closest-down}
 use Rattle.vectors.specs.declared.Vec3.{Vec3}
-use Rattle.vectors.specs.Vec.{vadd, vsub, vscale, vdot, vlength, lit, one, f+, f*, f/, floats, vecAt}
-use Rattle.lists.specs.Put.{put, upto}
-use Rattle.sizes.proofs.Least.{split, Least, NotZero, oneF, one-is, zero-is, value-least}
-use Rattle.sizes.proofs.Lengths.{root-infinite, fits-says, root-range, root-of-zero}
+use Rattle.vectors.specs.declared.Direction.the-variants.{Nowhere}
+use Rattle.vectors.proofs.Directions.{nowhere}
+use Rattle.vectors.specs.Vec.{directionOf, vadd, vsub, vscale, vdot, vlength, lit, one, f+, f*, f/}
+use Rattle.sizes.proofs.Least.{split, Least, NotZero, oneF, one-is, zero-is, value-least, faint, sub-self}
+use Rattle.sizes.proofs.Lengths.{zero-dark, faint-length, root-infinite, fits-says, root-range, root-of-zero}
 
 -- ---- a fraction of at most 2 ^ J units rounds to at most 2 ^ J
 closest-one : (x : ℕ) → closest x 1 ≡ x
@@ -224,9 +223,9 @@ add-plus j (fin false m e) (fin false n d) J h k =
     both a b x y e h k = omega arith
 
 -- ---- its root, where it is not 0: finite, and 2 ^ -75 at least
-zero-dark : (s : Bool) (e : ℤ) → NotZero (fin s 0 e) → ⊥
+zero-is-zero : (s : Bool) (e : ℤ) → NotZero (fin s 0 e) → ⊥
 unfolding eq
-zero-dark s e h =
+zero-is-zero s e h =
     subst T h
     (and-i (eqb (0 * up e * 1) (0 * 1 * down e)) (Bool·beq s false || eqb (0 * up e * 1) 0) (eq→eqb (nothing (up e) (down e))) (or-r (Bool·beq s false) (eqb (0 * up e * 1) 0) (eq→eqb (none (up e)))))
   where
@@ -244,7 +243,7 @@ root-sized : (x : Float) → Plus 126 x → T (fits binary32 x) → NotZero (roo
 root-sized nan h t l = absurd h
 root-sized (inf s) h t l = absurd h
 root-sized (fin true m e) h t l = absurd h
-root-sized (fin false zero e) h t l = absurd (zero-dark false e (subst NotZero (root-of-zero e) l))
+root-sized (fin false zero e) h t l = absurd (zero-is-zero false e (subst NotZero (root-of-zero e) l))
 root-sized (fin false (suc m) e) h t l =
     let r = root-range m e (fits-says m e t) in
     (value-real binary32 65 (root binary32 (fin false (suc m) e)) false (r .0) (r .1) (r .2), value-least binary32 75 (root binary32 (fin false (suc m) e)) false (r .0) (lit≤ tt) (r .1) (r .3))
@@ -276,57 +275,12 @@ scaled-real a (p, q, r) h =
     let z = root-sized s (plus-more 106 126 s (lit≤ tt) plus) (add-fits binary32 (f+ (f* (a .x) (a .x)) (f* (a .y) (a .y))) (f* (a .z) (a .z))) (subst (λ (u : Float). eq (root binary32 s) u ≡ false) zero-is h) in
     vscale-real 52 75 a (f/ one (root binary32 s)) (lit≤ tt) (p, q, r) (subst (λ (u : Float). Real 75 (f/ u (root binary32 s))) (sym one-is) (over-real (root binary32 s) (z .0) (z .1)))
 
--- ---- lists: every float is finite and at most 2 ^ k
-abbrev pub Every : ℕ → List Float → Type 0
-Every k [] = T true
-Every k (x ∷ xs) = Real k x × Every k xs
-
-pub every-at : (k : ℕ) (l : List Float) (i : ℕ) → i < length l → Every k l → Real k (getD l i nan)
-every-at k [] i b h = absurd (not-suc-le-zero b)
-every-at k (x ∷ xs) zero b h = h .0
-every-at k (x ∷ xs) (suc i) b h = every-at k xs i (le-of-suc-le-suc b) (h .1)
-
-pub every-vec : (k : ℕ) (l : List Float) (i : ℕ) → 3 * i + 3 ≤ length l → Every k l → Real3 k (vecAt l i)
-unfolding vecAt
-every-vec k l i b h = (every-at k l (3 * i) (at0 i (length l) b) h, every-at k l (3 * i + 1) (at1 i (length l) b) h, every-at k l (3 * i + 2) (at2 i (length l) b) h)
+-- ---- a vector of finite components less itself points nowhere
+pub self-nowhere : (k : ℕ) (v : Vec3) → Real3 k v → directionOf (vsub v v) ≡ Nowhere
+unfolding vsub
+self-nowhere k v (a, b, c) = nowhere (vsub v v) .1 (ap (λ (l : Float). eq l (lit 0)) (faint-length (vsub v v) (gone (v .x) a) (gone (v .y) b) (gone (v .z) c)) ∙ zero-dark)
   where
-    at0 : (i n : ℕ) → 3 * i + 3 ≤ n → 3 * i < n
-    at0 i n h = omega arith
-
-    at1 : (i n : ℕ) → 3 * i + 3 ≤ n → 3 * i + 1 < n
-    at1 i n h = omega arith
-
-    at2 : (i n : ℕ) → 3 * i + 3 ≤ n → 3 * i + 2 < n
-    at2 i n h = omega arith
-
-pub every-more : (j k : ℕ) (l : List Float) → j ≤ k → Every j l → Every k l
-every-more j k [] h e = tt
-every-more j k (x ∷ xs) h e = (real-more j k x h (e .0), every-more j k xs h (e .1))
-
-pub every-join : (k : ℕ) (l m : List Float) → Every k l → Every k m → Every k (l ++ m)
-every-join k [] m h e = e
-every-join k (x ∷ xs) m h e = (h .0, every-join k xs m (h .1) e)
-
-every-set : (k : ℕ) (l : List Float) (i : ℕ) (x : Float) → Every k l → Real k x → Every k (set l i x)
-every-set k [] i x h e = tt
-every-set k (y ∷ ys) zero x h e = (e, h .1)
-every-set k (y ∷ ys) (suc i) x h e = (h .0, every-set k ys i x (h .1) e)
-
-pub every-put : (k : ℕ) (l : List Float) (i : ℕ) (xs : List Float) → Every k l → Every k xs → Every k (put l i xs)
-unfolding put
-every-put k l i [] h e = h
-every-put k l i (x ∷ xs) h e = every-put k (set l i x) (suc i) xs (every-set k l i x h (e .0)) (e .1)
-
-pub every-upto : (k : ℕ) (f : ℕ → List Float) (n : ℕ) → ((i : ℕ) → i < n → Every k (f i)) → Every k (upto f n)
-unfolding upto
-every-upto k f zero h = tt
-every-upto k f (suc n) h = every-join k (upto f n) (f n) (every-upto k f n (λ i b. h i (le-step i n b))) (h n (last n))
-  where
-    le-step : (i n : ℕ) → i < n → i < suc n
-    le-step i n h = omega arith
-
-    last : (n : ℕ) → n < suc n
-    last n = omega arith
-
-pub every-floats : (k : ℕ) (v : Vec3) → Real3 k v → Every k (floats v)
-every-floats k v (a, b, c) = (a, (b, (c, tt)))
+    gone : (x : Float) → Real k x → faint (sub binary32 x x) ≡ true
+    gone nan h = absurd h
+    gone (inf s) h = absurd h
+    gone (fin s m e) h = ap faint (sub-self s m e)

@@ -1,0 +1,4 @@
+pub mod Demands
+pub mod Ends
+pub mod Jobs
+pub mod Within
