@@ -13,11 +13,12 @@ pub fn end_normal(points: &[f32], n: usize, last: Frame) -> Vec3
     requires { ⌜ (2 ≤ n) × (length (now points) ≡ 3 * n) ⌝ }
     ensures { λ r. ⌜ r ≡ endNormalBy (now (points .entry)) n last ⌝ }
 {
+    let tangent = last.tangent;
     let d = get_vec(points, n - 1)
         .sub(get_vec(points, n - 2))
         .direction();
     match d {
         Direction::Along(v) => v,
-        Direction::Nowhere => last.tangent,
+        Direction::Nowhere => tangent,
     }
 }

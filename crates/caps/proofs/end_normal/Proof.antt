@@ -9,7 +9,7 @@ returns c = rw (← (rw (c .before .before .before .before .sub .ensures, c .bef
 
 returns-2 : tie.Need-returns-2
 unfolding endNormalBy chord
-returns-2 c = rw (← (rw (c .before .before .before .before .sub .ensures, c .before .before .before .before .before .get-vec2 .ensures, c .before .before .before .before .before .before .get-vec .ensures) at (c .before .before .before .direction .ensures)), c .before .enum-told .given .1)
+returns-2 c = rw (← (rw (c .before .before .before .sub .ensures, c .before .before .before .before .get-vec2 .ensures, c .before .before .before .before .before .get-vec .ensures) at (c .before .before .direction .ensures)), c .enum-told .given .1)
 
 pub end-normal-spec : {M : Type 1} → statement M
 end-normal-spec =
