@@ -1,5 +1,5 @@
-//! The bench cases of 01 as jobs and requests, a job for 02's boxes, and two laboratories on one job (02 §5), for the tests and for the recorded
-//! answers.
+//! The bench cases of 01 as jobs and requests, a job for 02's boxes, two laboratories on one job (02 §5), and tubes whose end cap has no chord
+//! (02 §6), for the tests and for the recorded answers.
 
 use crate::{
     calls::needs,
@@ -7,7 +7,7 @@ use crate::{
     jobs::{segment, with_vertices},
     parties::{Share, Shares},
     protocol::{BUILD, BUILD_SHARE, PLAN, PLAN_RECORDS, PartyBytes, Request, TUBE},
-    tubes::{MAX_VERTICES, triangles_of},
+    tubes::{MAX_VERTICES, triangles_of, vertices_of},
 };
 
 /// C-alphas in one visible chain, residues and serials ascending from 0 and 1.
@@ -250,4 +250,82 @@ pub fn party_past_the_limit() -> Request {
     };
     let lengths = needs(0, 0, 0, job.residues as u64).map(|n| n as u32);
     party_build(0, lengths, bytes)
+}
+
+/// One tube, and the three words of its end cap's normal.
+pub struct Cap {
+    pub job: RawJob,
+    pub normal: [u32; 3],
+}
+
+impl Cap {
+    pub fn request(&self) -> Request {
+        let n = self.job.residues as u64;
+        build_request(&self.job, [1, vertices_of(n), triangles_of(n)], 0)
+    }
+}
+
+/// C-alphas on the x axis.
+pub fn on_x(xs: &[f64]) -> RawJob {
+    let points: Vec<_> = xs.iter().map(|&x| [x, 0.0, 0.0]).collect();
+    chain_at(&points)
+}
+
+/// The same job, all of it one segment.
+pub fn all_of(mut job: RawJob, kind: u8) -> RawJob {
+    job.segments.push(segment(kind, 1, job.residues as u32));
+    job
+}
+
+/// 02 §6: the smallest tubes known whose end cap has no chord to take its normal from, or hardly any.
+pub fn caps() -> Vec<Cap> {
+    let (up, back) = (0x3F80_0000, 0xBF80_0000);
+    let [x, y, minus_x] = [[up, 0, 0], [0, up, 0], [back, 0, 0]];
+    // Its square is rounded to 0, that of the next f32 is not.
+    let vanishes = 2f64.powi(-75);
+    let next = f32::from_bits((vanishes as f32).to_bits() + 1) as f64;
+    let (coil, helix, sheet) = (
+        on_x,
+        |xs: &[f64]| all_of(on_x(xs), 1),
+        |xs: &[f64]| all_of(on_x(xs), 2),
+    );
+    let slanted = [[0.1, 0.2, 0.3], [3.9, 0.2, 0.3], [3.9, 0.2, 0.3]];
+    [
+        // Derivatives of 0, so that the tangent falls back to y.
+        (coil(&[0.0, -0.0]), y),
+        (coil(&[0.0, 1e-25]), y),
+        (coil(&[0.0, vanishes]), y),
+        (coil(&[0.0, 4.0, 4.0]), y),
+        // C-alphas apart, which smoothing brings together at 1.
+        (sheet(&[0.0, 4.5, 1.0]), y),
+        // Chords of some length: the normal is theirs.
+        (coil(&[0.0, next]), [0x3F35_04F4, 0, 0]),
+        (coil(&[0.0, 4e-9]), x),
+        (sheet(&[0.0, 4.0, 4.0]), x),
+        // Derivatives that rounding leaves, which lead on or back.
+        (coil(&[0.2, 0.2]), x),
+        (coil(&[0.7, 0.7]), minus_x),
+        // Two f64 that are one f32.
+        (helix(&[0.7, 0.700_000_01]), minus_x),
+        (sheet(&[0.7, 0.7]), minus_x),
+        (coil(&[0.1, 4.1, 4.1]), minus_x),
+        (helix(&[0.1, 4.1, 4.1]), minus_x),
+        (sheet(&[0.4, 0.85, 0.5]), minus_x),
+        (sheet(&[0.1, 4.1, 4.1, 4.1, 4.1, 4.1]), minus_x),
+        (chain_at(&slanted), [0x3F7F_7E62, 0x3BFF_7E62, 0x3D7F_7E62]),
+    ]
+    .map(|(job, normal)| Cap { job, normal })
+    .into()
+}
+
+/// A party's build of two residues at one place, in shares that the other has none of.
+pub fn party_without_chord() -> Request {
+    let need = needs(1, 74, 144, 2);
+    let mine: Shares = std::array::from_fn(|i| Share::new(0, need[i]));
+    let bytes = PartyBytes {
+        shares: Some([[Share::default(); 6], mine]),
+        records: record_bytes(&[segment(1, 1, 2)]),
+        job: on_x(&[0.7, 0.7]).bytes(),
+    };
+    party_build(1, need.map(|n| n as u32), bytes)
 }

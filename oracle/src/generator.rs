@@ -1,9 +1,10 @@
 //! Makes requests: jobs of every kind, each refusal at its boundary, damaged jobs, lent lengths around each need, tube buffers with any
-//! contents, PDB files, and by themselves jobs out of order, jobs for boxes, STL, and two parties. Request `i` of a seed does not depend on the
+//! contents, PDB files, and by themselves jobs out of order, jobs for boxes, jobs for end caps, STL, and two parties. Request `i` of a seed does not depend on the
 //! others, so that a difference can be made again alone.
 
 use crate::{
     calls::{list, needs},
+    caps::capped,
     job::{LIMIT, MAX_RESIDUES, NONE, RawAtom, RawJob, decode, fix_length},
     jobs::{chaos, job, out_of_order, small},
     party_requests, pdb_files,
@@ -345,6 +346,31 @@ pub fn box_request(seed: u64, index: u64) -> Request {
     }
 }
 
+/// A build, now and then a plan or a party's build, of a job whose tubes end in two points at one place, or nearly, or of an ordinary small one.
+pub fn cap_request(seed: u64, index: u64) -> Request {
+    let mut rng = Rng::new(seed, index);
+    let rng = &mut rng;
+    let job = if rng.percent(90) {
+        capped(rng)
+    } else {
+        small(rng)
+    };
+    if rng.percent(10) {
+        return party_requests::build_of(rng, job);
+    }
+    let bytes = job.bytes();
+    if rng.percent(5) {
+        return plan_of(rng, bytes);
+    }
+    let lengths = box_lengths(rng, &bytes);
+    Request {
+        call: BUILD,
+        lengths,
+        k: 0,
+        bytes,
+    }
+}
+
 /// Which requests are made.
 #[derive(Clone, Copy, Debug, PartialEq, Eq)]
 pub enum Kind {
@@ -357,6 +383,8 @@ pub enum Kind {
     Orders,
     /// Calls 1 and 2, on small tubes at which the earlier of equal coordinates shows.
     Boxes,
+    /// Calls 1, 2 and 7, on tubes whose last two spline points coincide, or nearly do.
+    Caps,
     /// Calls 5 and 6.
     Stl,
     /// Calls 7 and 8.
@@ -371,6 +399,7 @@ impl Kind {
             "both" => Some(Kind::Both),
             "orders" => Some(Kind::Orders),
             "boxes" => Some(Kind::Boxes),
+            "caps" => Some(Kind::Caps),
             "stl" => Some(Kind::Stl),
             "parties" => Some(Kind::Parties),
             _ => None,
@@ -383,6 +412,7 @@ impl Kind {
             Kind::Files => file_request(seed, index),
             Kind::Orders => order_request(seed, index),
             Kind::Boxes => box_request(seed, index),
+            Kind::Caps => cap_request(seed, index),
             Kind::Stl => stl_request(seed, index),
             Kind::Parties => party_request(seed, index),
             Kind::Both if index % 3 == 2 => file_request(seed, index),

@@ -5,6 +5,7 @@
 pub mod angles;
 pub mod breaks;
 pub mod calls;
+pub mod caps;
 pub mod cases;
 pub mod compare;
 pub mod differences;

@@ -28,7 +28,7 @@ use oracle::{
 const USAGE: &str = "usage:
   oracle answer [--wrong MISTAKE]                              requests on standard input, answers on standard output
   oracle compare [--kind KIND] [--jobs N] [--seed S] [--out DIR] -- PROGRAM [ARGUMENT ...]   compares PROGRAM with the oracle
-  oracle generate [--kind KIND] [--jobs N] [--seed S]          requests on standard output; KIND is jobs, files, both, orders, boxes, stl or parties
+  oracle generate [--kind KIND] [--jobs N] [--seed S]          requests on standard output; KIND is jobs, files, both, orders, boxes, caps, stl or parties
   oracle record --out DIR                                      writes the recorded answers
   oracle differences OLD NEW                                   which words differ between the recorded answers in two folders
   oracle read-pdb [FILE]                                       the job of a PDB file (or of standard input) on standard output

@@ -403,6 +403,13 @@ fn passed_over(rng: &mut Rng, mut r: Request) -> Request {
     r
 }
 
+/// One party's build of this job with its segments, or with others, and nothing wrong.
+pub fn build_of(rng: &mut Rng, job: RawJob) -> Request {
+    let marked = with_marks(rng, job);
+    let scene = plain(rng, &marked);
+    scene.build(rng.below(2) as usize)
+}
+
 /// Request `index` of `seed`. Those of a run are made from its first index, so that they share all but the caller and its records.
 pub fn request(seed: u64, index: u64) -> Request {
     let turn = (index % PERIOD + RUN).checked_sub(PERIOD);

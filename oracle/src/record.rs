@@ -5,7 +5,7 @@ use std::{collections::HashMap, fs, io, path::Path};
 
 use crate::{
     cases,
-    generator::{file_request, job_request, party_request, stl_request},
+    generator::{cap_request, file_request, job_request, party_request, stl_request},
     protocol::{
         BUILD, BUILD_SHARE, NAMES, PLAN, PLAN_RECORDS, READ, READ_STL, Request, TOO_LONG, TUBE,
         WRITE_STL, answer, encode_answer,
@@ -21,6 +21,10 @@ const MOST_STL: usize = 11_600;
 /// The same for a party's call: a mesh of two residues with little room for the other's; and where 1 to 9 refuse it before there is one.
 const MOST_PARTY: usize = 5_400;
 const MOST_REFUSED: usize = 1_500;
+/// The same for an end cap without a chord: a tube of two residues.
+const MOST_CAP: usize = 4_800;
+/// How many generated requests for end caps are kept.
+const CAPS: usize = 4;
 /// The mistakes about parties that show only where there are very many records, which would take more room than all else.
 pub const OF_MANY: [Mutation; 4] = [
     Mutation::PartyManyTaken,
@@ -71,8 +75,8 @@ fn kinds(call: u8) -> std::ops::RangeInclusive<u32> {
     }
 }
 
-/// The bench cases of 01, then generated requests of every kind, then files, then the job of equal coordinates, then STL, and last two parties. What
-/// is added stands at the end, so that the requests before it stay as they are.
+/// The bench cases of 01, then generated requests of every kind, then files, then the job of equal coordinates, then STL, then two parties, and last
+/// end caps without a chord. What is added stands at the end, so that the requests before it stay as they are.
 pub fn sample() -> Vec<Request> {
     let mut sample = cases::requests();
     keep(&mut sample, &[BUILD, PLAN, TUBE], job_request);
@@ -85,7 +89,30 @@ pub fn sample() -> Vec<Request> {
     sample.push(cases::party_past_the_limit());
     keep(&mut sample, &[BUILD_SHARE, PLAN_RECORDS], party_request);
     keep_what_shows(&mut sample, "Party", is_party, party_request);
+    sample.extend(cases::caps().iter().map(cases::Cap::request));
+    sample.push(cases::party_without_chord());
+    sample.extend(generated_caps());
     sample
+}
+
+/// The first small builds of the kind `caps` at which the Rust's answer, a normal of zeros, shows.
+fn generated_caps() -> impl Iterator<Item = Request> {
+    let small = |r: &Request| {
+        r.call == BUILD && r.bytes.len() + 4 * places_lent(r) <= MOST_CAP && answer(r)[0] == 0
+    };
+    let requests = (0..).map(|i| cap_request(SEED, i));
+    requests
+        .filter(move |r| small(r) && shows(Mutation::CapZero, r))
+        .take(CAPS)
+}
+
+fn places_lent(r: &Request) -> usize {
+    r.lengths.iter().map(|&n| n as usize).sum()
+}
+
+/// Whether the answer to this request is another one with this mistake.
+pub fn shows(m: Mutation, r: &Request) -> bool {
+    wrong::with(Some(m), || answer(r)) != answer(r)
 }
 
 /// Keeps requests of these calls until each mistake about them shows in one of them.
@@ -95,7 +122,6 @@ fn keep_what_shows(
     is_one: fn(&Request) -> bool,
     request: fn(u64, u64) -> Request,
 ) {
-    let shows = |m: Mutation, r: &Request| wrong::with(Some(m), || answer(r)) != answer(r);
     let about = |m: &&Mutation| m.name().starts_with(prefix) && !OF_MANY.contains(m);
     for &m in Mutation::ALL.iter().filter(about) {
         if sample.iter().any(|r| is_one(r) && shows(m, r)) {
@@ -208,9 +234,10 @@ which always gives the same bytes: first the bench cases of 01 (`oracle/src/case
 there are enough of each call and each kind of answer: meshes, refusals 1 to 11, plans, parts of a triangle buffer and empty parts; then PDB
 files, jobs and refusals 12, 13, 14 and 16 (a file that gets 15 has 16,385 residues); then the job `ties` of `cases.rs`, whose box has equal
 coordinates to choose from, +0 and -0; then binary STL, mesh buffers written and files listed, with refusals 17, 18 and
-19, and requests at which each mistake about STL in `wrong.rs` shows; and last two parties on one job: two laboratories by turns (`cases.rs`), then
+19, and requests at which each mistake about STL in `wrong.rs` shows; then two parties on one job: two laboratories by turns (`cases.rs`), then
 builds with refusals 1 to 11 and 20, plans with refusals 1 to 9, and requests at which each mistake about parties shows, but for four about very many
-records.
+records; and last tubes whose end cap has no chord, or hardly any (02 §6): the smallest known, of each kind (`caps` of `cases.rs`), at which each mistake
+about end caps shows, one of a party, and {CAPS} of the generator's kind `caps`.
 The longest buffers lent are, in places (the lent job bytes of call 4 and the corner floats of call 6 count as positions, its normal floats as normals,
 the lent STL bytes of call 5 as scratch words): {lengths}; the longest bytes of a request {bytes}.
 The oracle's tests fail when it answers otherwise; the program `replay` runs them without it. The cosines and sines behind the meshes are those

@@ -402,7 +402,7 @@ fn build_segment_mesh(
     let total_samples = (n - 1) * SPLINE_DIVS + 1;
     let mut ring_base: Option<usize> = None;
     let mut last_pos = spline_ca[0];
-    let mut last_tan = spline_ca[0]; // oracle: only for the mistake at the end cap.
+    let mut last_tan = spline_ca[0]; // oracle: for the end cap, where the last chord has no direction.
 
     for s in 0..total_samples {
         let seg_idx = ((s / SPLINE_DIVS) as isize).min((n - 2) as isize);
@@ -495,13 +495,17 @@ fn build_segment_mesh(
     }
 
     if let Some(last_base) = ring_base {
-        let end_tan = (spline_ca[n - 1] - spline_ca[n - 2]).to_normalized();
-        // oracle: or the last sample's tangent.
-        let end_tan = if wrong(Mutation::EndCapSampleTangent) {
+        // oracle: 02 §6: a chord of length 0 has no direction, and the end cap then takes the last sample's tangent.
+        let chord = spline_ca[n - 1] - spline_ca[n - 2];
+        let end_tan = if chord.magnitude() == 0.0 {
             last_tan
         } else {
-            end_tan
+            (spline_ca[n - 1] - spline_ca[n - 2]).to_normalized()
         };
+        // oracle: or another, by mistake.
+        let end_tan = end_cap::Tube::new(frames, &tangents, &guides, &spline_ca)
+            .mistaken(chord, last_tan)
+            .unwrap_or(end_tan);
         let end_color = res_color(frames[n - 1].res_idx as f32);
         emit_cap(
             verts, indices, last_base, last_pos, end_tan, end_color, false,
@@ -828,6 +832,7 @@ pub fn build_ribbon_mesh(
     (tubes, Mesh { vertices, indices })
 }
 
-// oracle: tests of what is private here.
+// oracle: the mistakes at an end cap, and tests of what is private here.
+mod end_cap;
 #[cfg(test)]
 mod smoothing;

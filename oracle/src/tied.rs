@@ -9,7 +9,7 @@ use crate::{
 };
 
 /// 2^-149, the least f32 above 0.
-const LEAST: f64 = f64::from_bits((1023 - 149) << 52);
+pub const LEAST: f64 = f64::from_bits((1023 - 149) << 52);
 
 /// A C-alpha and the oxygen of the same residue.
 type Pair = ([f64; 3], Option<[f64; 3]>);

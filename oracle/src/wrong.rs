@@ -26,7 +26,7 @@ mutations! {
     FirstOInSegments "segments take the first oxygen of a residue",
     FirstChain "a residue's chain is that of the first atom giving both",
     TangentHalved "the 1e-8 test is on the true curve's tangent",
-    EndCapSampleTangent "the end cap has the last sample's tangent",
+    EndCapSampleTangent "the end cap has the last sample's tangent, whatever the chord",
     CutAtFive "a step of exactly 5.0 is cut",
     OneFrameCovers "a segment with one frame covers its residue",
     HiddenNotCovering "a hidden segment covers nothing",
@@ -89,6 +89,19 @@ mutations! {
     RoomExclusive "room for exactly the job is refused",
     WrittenOnSixteen "refusal 16 leaves a part of the job",
     RestCleared "the places past the job are cleared",
+    // Of 02 §6, caught by the requests of `Kind::Caps`: at the end cap of a tube whose last two spline points coincide, or nearly do.
+    CapZero "an end cap whose chord has length 0 has a normal of zeros, as in the Rust",
+    CapFirstTangent "it takes the first sample's tangent",
+    CapSampleBefore "it takes the tangent of the sample before the last",
+    CapResidueTangent "it takes the last residue's tangent",
+    CapGuide "it takes the last sample's guide",
+    CapNegated "it takes the last sample's tangent negated, as a start cap takes the first",
+    CapNoFallback "it takes the last derivative normalised, with no test on 1e-8",
+    CapWholeChord "it takes the chord of the whole tube",
+    CapChordBefore "it takes the last chord that has a direction",
+    CapTinyChord "a chord shorter than 1e-8 has no direction",
+    CapZeroChord "only a chord of zeros has no direction, not one whose length is rounded to 0",
+    CapOfAlphas "the last two C-alphas decide, not the smoothed points of a sheet",
     // Of 02 §4, caught by the requests of `Kind::Stl`. Two mistakes are not here, since no request can show them. One is to forget the limit on V:
     // a mesh past it needs over 50 MB of buffers, and a request has 1 MiB, so that room is missing first. The other is to take n = 16,385: such a tube
     // has 1,048,586 vertices, so that the limit on V refuses it in any buffers.
@@ -202,7 +215,13 @@ thread_local! {
 
 #[inline]
 pub fn wrong(m: Mutation) -> bool {
-    NOW.get() == Some(m)
+    now() == Some(m)
+}
+
+/// The mistake in force.
+#[inline]
+pub fn now() -> Option<Mutation> {
+    NOW.get()
 }
 
 /// What `f` gives with this mistake in force.

@@ -8,6 +8,7 @@ use std::collections::HashSet;
 use common::{built, tubes};
 use oracle::{
     calls::{Buffers, Counts, list},
+    caps::capped,
     cases::two_residues,
     job::decode,
     jobs::job,
@@ -58,9 +59,13 @@ fn check(c: Counts, b: &Buffers) {
 #[test]
 fn every_mesh_is_closed() {
     let mut tubes = 0;
-    for i in 0..4000 {
+    for i in 0..5000 {
         let rng = &mut Rng::new(5, i);
-        let job = if i < 3000 { job(rng) } else { tied(rng) };
+        let job = match i {
+            0..3000 => job(rng),
+            3000..4000 => tied(rng),
+            _ => capped(rng),
+        };
         let bytes = job.bytes();
         if !decode(&bytes).is_ok_and(|j| list(&j).v < MAX_VERTICES / 20) {
             continue;
@@ -69,7 +74,7 @@ fn every_mesh_is_closed() {
         check(c, &b);
         tubes += c.k;
     }
-    assert!(tubes > 4500, "only {tubes} tubes");
+    assert!(tubes > 6000, "only {tubes} tubes");
 }
 
 #[test]

@@ -11,13 +11,14 @@ use oracle::{
 const SEED: u64 = 7;
 const WITHIN: u64 = 15_000;
 
-/// The kind of the requests that must catch this mistake: jobs and files, but for those of 02 §4 and §5, and for the one mistake that shows only in
-/// a box with zeros of both signs to choose from, which those jobs do not have.
+/// The kind of the requests that must catch this mistake: jobs and files, but for those of 02 §4, §5 and §6, and for the one mistake that shows only
+/// in a box with zeros of both signs to choose from, which those jobs do not have.
 fn kind_that_shows(m: Mutation) -> Kind {
     match m {
         Mutation::BoxLaterOfEquals => Kind::Boxes,
         m if m.name().starts_with("Stl") => Kind::Stl,
         m if m.name().starts_with("Party") => Kind::Parties,
+        m if m.name().starts_with("Cap") => Kind::Caps,
         _ => Kind::Both,
     }
 }

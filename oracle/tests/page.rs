@@ -1,130 +1,16 @@
-//! 01's own sentences on tubes, tags and triangles, read plainly and by residue, give what document 000 gives, and so does 02's on boxes,
-//! read plainly over the positions that were built. So a reading of the page that differs from the Rust would show here.
+//! 01's own sentences on tubes, tags, triangles and caps, read plainly and by residue (`common/reading.rs`), give what document 000 gives, and so do
+//! 02 §2's on boxes, read plainly over the positions that were built, and 02 §6's on an end cap, over spline points made anew. So a reading of the
+//! page that differs from the Rust would show here.
 
 mod common;
 
-use common::built;
-use oracle::{
-    calls::list,
-    job::{NONE, RawAtom, RawJob, decode},
-    jobs::job,
-    rng::Rng,
-    tied::tied,
-    tubes::MAX_VERTICES,
+use common::{
+    built,
+    reading::{direction, end_normal, last_chord, spline_points, start_normal, tubes},
 };
-
-/// A residue and the C-alpha position that its tube takes for it.
-type Frame = (u16, [f32; 3]);
-
-/// 'Residue's chain: the last atom giving both.'
-fn chain(job: &RawJob, residue: u16) -> Option<u16> {
-    let gives = |a: &&RawAtom| a.residue == residue && a.chain != NONE;
-    job.atoms.iter().rfind(gives).map(|a| a.chain)
-}
-
-/// 'No chain counts as visible.'
-fn visible(job: &RawJob, residue: u16) -> bool {
-    chain(job, residue).is_none_or(|c| job.visible[c as usize] == 1)
-}
-
-/// 'Its coil position: the first C-alpha listed.'
-fn coil_position(job: &RawJob, residue: u16) -> Option<[f32; 3]> {
-    let is = |a: &&RawAtom| a.role == 1 && a.residue == residue;
-    job.atoms.iter().find(is).map(|a| a.xyz.map(|x| x as f32))
-}
-
-/// 'Within a segment (serials from start to end inclusive) the last C-alpha .. win; frames ascend by residue.'
-fn frames(job: &RawJob, segment: usize) -> Vec<Frame> {
-    let s = &job.segments[segment];
-    let last = |residue: u16| {
-        let within = |a: &&RawAtom| {
-            a.role == 1 && a.residue == residue && (s.start..=s.end).contains(&a.serial)
-        };
-        job.atoms.iter().rfind(within)
-    };
-    (0..job.residues)
-        .filter_map(|r| last(r).map(|a| (r, a.xyz.map(|x| x as f32))))
-        .collect()
-}
-
-/// 'A segment with fewer than two frames .. covers nothing. Otherwise all its frames become covered, even if hidden.'
-fn covered(job: &RawJob) -> Vec<bool> {
-    let mut covered = vec![false; job.residues as usize];
-    for s in 0..job.segments.len() {
-        let frames = frames(job, s);
-        if frames.len() >= 2 {
-            frames.iter().for_each(|f| covered[f.0 as usize] = true);
-        }
-    }
-    covered
-}
-
-/// The pieces of a list, cut between two neighbours where `apart` holds.
-fn cut(list: &[Frame], apart: impl Fn(&Frame, &Frame) -> bool) -> Vec<Vec<Frame>> {
-    let mut pieces: Vec<Vec<Frame>> = Vec::new();
-    for f in list {
-        match pieces.last_mut() {
-            Some(piece) if !apart(&piece[piece.len() - 1], f) => piece.push(*f),
-            _ => pieces.push(vec![*f]),
-        }
-    }
-    pieces
-}
-
-/// 'cut where residues are not consecutive or chains differ'
-fn runs(job: &RawJob, list: &[Frame]) -> Vec<Vec<Frame>> {
-    cut(list, |a, b| {
-        a.0 + 1 != b.0 || chain(job, a.0) != chain(job, b.0)
-    })
-}
-
-/// 'then where the step is greater than 5.0'; 'Pieces under two frames give no tube.'
-fn tubes_of(run: &[Frame]) -> Vec<Vec<Frame>> {
-    let long = |a: &Frame, b: &Frame| {
-        let [x, y, z] = [0, 1, 2].map(|i| b.1[i] - a.1[i]);
-        ((x * x + y * y) + z * z).sqrt() > 5.0
-    };
-    let mut pieces = cut(run, long);
-    pieces.retain(|p| p.len() >= 2);
-    pieces
-}
-
-/// 'each run gains its neighbour before and after if that is covered, has a C-alpha position and shares the chain'
-fn extended(job: &RawJob, covered: &[bool], run: &[Frame]) -> Vec<Frame> {
-    let neighbour = |of: u16, r: Option<u16>| -> Option<Frame> {
-        let r = r.filter(|&r| r < job.residues && covered[r as usize])?;
-        let shares = chain(job, r) == chain(job, of);
-        coil_position(job, r).filter(|_| shares).map(|p| (r, p))
-    };
-    let (first, last) = (run[0].0, run[run.len() - 1].0);
-    let mut out: Vec<Frame> = neighbour(first, first.checked_sub(1)).into_iter().collect();
-    out.extend(run);
-    out.extend(neighbour(last, last.checked_add(1)));
-    out
-}
-
-/// Every tube in order: its kind and its frames.
-fn tubes(job: &RawJob) -> Vec<(u8, Vec<Frame>)> {
-    let mut out = Vec::new();
-    for (s, segment) in job.segments.iter().enumerate() {
-        let frames = frames(job, s);
-        if frames.len() >= 2 && visible(job, frames[0].0) {
-            for run in runs(job, &frames) {
-                out.extend(tubes_of(&run).into_iter().map(|t| (segment.kind, t)));
-            }
-        }
-    }
-    let covered = covered(job);
-    let coil: Vec<Frame> = (0..job.residues)
-        .filter(|&r| !covered[r as usize] && visible(job, r))
-        .filter_map(|r| coil_position(job, r).map(|p| (r, p)))
-        .collect();
-    for run in runs(job, &coil) {
-        let run = extended(job, &covered, &run);
-        out.extend(tubes_of(&run).into_iter().map(|t| (0, t)));
-    }
-    out
-}
+use oracle::{
+    calls::list, caps::capped, job::decode, jobs::job, rng::Rng, tied::tied, tubes::MAX_VERTICES,
+};
 
 /// 'A box is the least and greatest .. coordinate on each axis ..; the earlier of equals is kept', and by 02 §2 it 'takes the vertices of its
 /// tube, caps included': the first coordinate that none is below, and the first that none is above.
@@ -226,6 +112,37 @@ fn the_page_gives_the_same_boxes() {
         compared += got.len() / 6;
     }
     assert!(compared > 11_000, "only {compared} tubes");
+}
+
+#[test]
+fn the_page_gives_the_same_caps() {
+    let mut compared = [0; 2];
+    let of_all_kinds = (0..4000).map(|i| (i, job(&mut Rng::new(24, i))));
+    let huddled = (0..1000).map(|i| (i, tied(&mut Rng::new(24, i))));
+    let with_no_chord = (0..4000).map(|i| (i, capped(&mut Rng::new(24, i))));
+    for (i, job) in of_all_kinds.chain(huddled).chain(with_no_chord) {
+        if !decode(&job.bytes()).is_ok_and(|j| list(&j).v < 10_000) {
+            continue;
+        }
+        let (_, b) = built(&job);
+        let normal = |vertex: usize| &b.normals[3 * vertex..][..3];
+        let bits = |normal: &[f32]| normal.iter().map(|f| f.to_bits()).collect::<Vec<_>>();
+        let listed = common::tubes(&b);
+        let read = tubes(&job);
+        assert_eq!(listed.len(), read.len(), "job {i}");
+        for ([_, _, n, vertex, _], (kind, frames)) in listed.into_iter().zip(read) {
+            let points = spline_points(kind, &frames);
+            let first = vertex as usize;
+            let last = first + 64 * n as usize - 55;
+            let start = start_normal(&points);
+            assert_eq!(bits(normal(first + 8)), bits(&start), "job {i}, start");
+            let end = end_normal(&points);
+            assert_eq!(bits(normal(last)), bits(&end), "job {i}, end");
+            let nowhere = direction(last_chord(&points)).is_none();
+            compared[nowhere as usize] += 1;
+        }
+    }
+    assert!(compared[0] > 9000 && compared[1] > 3000, "{compared:?}");
 }
 
 #[test]

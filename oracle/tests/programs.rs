@@ -54,6 +54,7 @@ fn the_oracle_equals_itself() {
         ("both", "5000"),
         ("orders", "500"),
         ("boxes", "500"),
+        ("caps", "500"),
         ("stl", "2000"),
         ("parties", "2000"),
     ] {
@@ -131,6 +132,19 @@ fn a_wrong_box_is_caught_and_its_job_shrunk() {
         text.contains("atom 1:") && !text.contains("atom 4:"),
         "{text}"
     );
+}
+
+#[test]
+fn a_wrong_cap_is_caught_and_its_job_shrunk() {
+    for mistake in ["CapZero", "CapZeroChord", "CapTinyChord"] {
+        let text = difference_of("caps", mistake, &folder("wrong-cap"));
+        assert!(text.contains("first difference: normals, place"), "{text}");
+        // Two C-alphas.
+        assert!(
+            text.contains("atom 1:") && !text.contains("atom 2:"),
+            "{text}"
+        );
+    }
 }
 
 #[test]

@@ -1,5 +1,7 @@
-//! What several test files need: a build into buffers that fit. Each file uses a part of it.
+//! What several test files need: a build into buffers that fit, and a plain reading of 01. Each file uses a part of it.
 #![allow(dead_code)]
+
+pub mod reading;
 
 use oracle::{
     calls::{self, Buffers, Counts, build, list},
