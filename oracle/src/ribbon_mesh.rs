@@ -19,8 +19,8 @@
 //! for a seamless join.
 //!
 //! This file is document 000 (licence: NOTICE) over `stand_ins.rs`, its text kept wherever it can be. Out: colours, selection, bonds, material,
-//! the second position array. In: the residue in the place of the colour, the tube list (`Tubes`), and `wrong(..)`, which
-//! turns one step into a named mistake for the tests and is false otherwise. Each place added is marked `oracle:`.
+//! the second position array. In: the residue in the place of the colour, the tube list (`Tubes`), the end cap of 02 §6, and
+//! `wrong(..)`, which turns one step into a named mistake for the tests and is false otherwise. Each place added is marked `oracle:`.
 
 use std::{
     collections::{HashMap, HashSet},

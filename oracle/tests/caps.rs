@@ -73,6 +73,18 @@ fn the_last_derivative_is_what_rounding_leaves() {
     assert_eq!(bits(derivative(&job)), [0xB580_0000, 0, 0]);
     assert_eq!(derivative(&job)[0], -(2f32.powi(-20)));
     assert_eq!(normal(&job), bits([-1.0, 0.0, 0.0]));
+    // Two residues at one place: under 1e-8, above it, and below 0, whatever the kind.
+    for (x, left, end) in [
+        (0.1, 2f32.powi(-27), Y),
+        (0.2, 2f32.powi(-26), bits([1.0, 0.0, 0.0])),
+        (0.7, -(2f32.powi(-24)), bits([-1.0, 0.0, 0.0])),
+    ] {
+        for kind in 0..3 {
+            let job = all_of(on_x(&[x, x]), kind);
+            assert_eq!(derivative(&job), [left, 0.0, 0.0], "{x}");
+            assert_eq!(normal(&job), end, "{x}");
+        }
+    }
 }
 
 /// 'Length 0' is the computed length: squares that are rounded to 0 count, those of the least that is not do not.
@@ -230,7 +242,7 @@ fn requests_for_caps_show_all_there_is_to_show() {
     assert!(seen[..2].iter().all(|s| s.apart + s.together == 0));
 }
 
-/// Two f64 that are one f32; tubes of two residues and of more, of each kind; builds of a party; plans, and buffers one place short.
+/// Two f64 that are one f32; a coil's neighbour at its last place; tubes of two residues and of more, of each kind; builds of a party; plans, and buffers one place short.
 #[test]
 fn requests_for_caps_are_of_many_sorts_and_stay_the_same() {
     let (mut tally, mut calls) = (Tally::default(), [0; 9]);
@@ -248,7 +260,7 @@ fn requests_for_caps_are_of_many_sorts_and_stay_the_same() {
         calls[PLAN as usize] > 80 && tally.refusals[11] > 200,
         "{text}"
     );
-    let mut narrowed = 0;
+    let (mut narrowed, mut lent) = (0, 0);
     let mut lengths = [0; 3];
     for (job, _) in meshes() {
         let one = |w: &[[f64; 3]]| w[0] != w[1] && w[0].map(|x| x as f32) == w[1].map(|x| x as f32);
@@ -259,11 +271,16 @@ fn requests_for_caps_are_of_many_sorts_and_stay_the_same() {
             .map(|a| a.xyz)
             .collect();
         narrowed += alphas.windows(2).any(one) as u64;
-        for (kind, frames) in tubes(&job) {
-            lengths[kind as usize] |= 1 << frames.len();
+        let all = tubes(&job);
+        for (kind, frames) in &all {
+            lengths[*kind as usize] |= 1 << frames.len();
+            // A coil that ends in the first residue of another tube.
+            let nowhere = direction(last_chord(&spline_points(*kind, frames))).is_none();
+            let last = frames[frames.len() - 1].0;
+            lent += (nowhere && all.iter().any(|(_, other)| other[0].0 == last)) as u64;
         }
     }
-    assert!(narrowed > 300, "{narrowed}");
+    assert!(narrowed > 300 && lent > 60, "{narrowed}, {lent}");
     // Two to seven residues.
     assert!(lengths.iter().all(|seen| seen & 0b1111_1100 == 0b1111_1100));
 }
