@@ -23,6 +23,11 @@ and-right false false e = e
 pub and-both : (a b : Bool) → (a && b) ≡ true → (a ≡ true) × (b ≡ true)
 and-both a b e = (and-left a b e, and-right a b e)
 
+-- one of two tests is false
+pub and-no : (a b : Bool) → (a && b) ≡ false → (a ≡ false) ⊎ (b ≡ false)
+and-no true b e = inr e
+and-no false b e = inl refl
+
 pub or-left : (a b : Bool) → (a || b) ≡ false → a ≡ false
 or-left true b e = e
 or-left false b e = refl
@@ -41,6 +46,10 @@ or-none {a} {b} p q = rw (p, q)
 pub or-cases : (a b : Bool) → (a || b) ≡ true → (a ≡ true) ⊎ (b ≡ true)
 or-cases true b e = inl refl
 or-cases false b e = inr e
+
+-- the last of three decides where the others fail
+pub or-last : {a b c x : Bool} → a ≡ false → b ≡ false → x ≡ c → x ≡ (a || (b || c))
+or-last {a} {b} {c} {x} p q r = rw (p, q, r)
 
 pub or-by-left : (a b : Bool) → a ≡ true → (a || b) ≡ true
 or-by-left a b e = rw e

@@ -170,6 +170,10 @@ take-put k l i (x ∷ xs) h = take-put k (set l i x) (suc i) xs (omega arith) �
 
 -- ---- of f 0, f 1, .., f (n - 1), one after the other
 
+-- place j of piece i, of pieces w wide, lies within n of them
+pub piece-within : (i n w j : ℕ) → i < n → j < w → i * w + j < n * w
+piece-within i n w j b m = lt-of-lt-of-le (let e : suc i * w ≡ i * w + w = suc-mul i w in omega arith) (mul-le-mul-right w b)
+
 -- piece i of pieces of one width
 pub upto-at : {A : Type 0} (f : ℕ → List A) (w n i j : ℕ) (d : A) → ((k : ℕ) → length (f k) ≡ w) → i < n → j < w
     → getD (upto f n) (i * w + j) d ≡ getD (f i) j d
@@ -180,12 +184,9 @@ upto-at f w (suc n) i j d hw l m =
     ⊎-elim
     (λ q. rw q (ap (λ (k : ℕ). getD (upto f n ++ f n) (k + j) d) (sym z) ∙ getD-append-add (upto f n) (f n) j d))
     (λ b.
-    let t : i * w + j < length (upto f n) = rw z (within i n w j b m) in
+    let t : i * w + j < length (upto f n) = rw z (piece-within i n w j b m) in
     List·getD-append (upto f n) (f n) d (i * w + j) t ∙ upto-at f w n i j d hw b m)
     (eq-or-lt-of-le (le-of-suc-le-suc l))
-  where
-    within : (i n w j : ℕ) → i < n → j < w → i * w + j < n * w
-    within i n w j b m = lt-of-lt-of-le (let e : suc i * w ≡ i * w + w = suc-mul i w in omega arith) (mul-le-mul-right w b)
 
 -- pieces that are the same
 pub upto-same : {A : Type 0} (f g : ℕ → List A) (n : ℕ) → ((k : ℕ) → k < n → f k ≡ g k) → upto f n ≡ upto g n

@@ -65,6 +65,12 @@ first-le t (suc n) = go (first t n) (first-le t n) (t n)
     go zero h false = omega arith
     go (suc a) h b = omega arith
 
+-- two tests that agree below n
+pub first-same : (t u : ℕ → Bool) (n : ℕ) → ((i : ℕ) → i < n → t i ≡ u i) → first t n ≡ first u n
+unfolding first
+first-same t u zero h = refl
+first-same t u (suc n) h = rw (first-same t u n (λ i l. h i (omega arith)), h n (omega arith))
+
 -- where one is taken there is a first, and where there is no first none is taken
 pub some-first : (t : ℕ → Bool) (n i : ℕ) → i < n → t i ≡ true → 0 < first t n
 unfolding first

@@ -76,11 +76,40 @@ fill-leave f base i t₀ t F q = record {
   after = λ j h. F .after j (omega arith);
 }
 
+-- one store
+pub fill-one : (v at : ℕ) (t : List ℕ) → at < length t → Filled (λ i. v) at 1 t (set t at v)
+fill-one v at t l = record {
+  size = length-set t at v;
+  entry = λ r h. let z : at + r ≡ at = omega arith in rw z (getD-set-same t at v 0 l);
+  before = λ j h. getD-set-other t at j v 0 (λ e. omega arith);
+  after = λ j h. getD-set-other t at j v 0 (λ e. omega arith);
+}
+
+-- a turn of a copy of n places to others behind them
+pub copy-turn : (from to i n : ℕ) (t₀ t : List ℕ) → Filled (λ k. getD t₀ (from + k) 0) to i t₀ t → i < n → from + n ≤ to → to + n ≤ length t₀
+    → Filled (λ k. getD t₀ (from + k) 0) to (i + 1) t₀ (set t (to + i) (getD t (from + i) 0))
+copy-turn from to i n t₀ t F l a b = rw (F .before (from + i) (omega arith)) (fill-extend (λ k. getD t₀ (from + k) 0) to i t₀ t F (omega arith))
+
 pub fill-empty : (f : ℕ → ℕ) (base : ℕ) (t : List ℕ) → Filled f base 0 t t
 fill-empty f base t = record { size = refl; entry = λ r h. absurd (omega arith); before = λ j h. refl; after = λ j h. refl }
 
 pub kept-refl : (lo hi : ℕ) (t : List ℕ) → Kept lo hi t t
 kept-refl lo hi t = record { size = refl; before = λ j h. refl; after = λ j h. refl }
+
+-- in wider bounds, and one step after another
+pub kept-wide : (lo hi lo' hi' : ℕ) (t u : List ℕ) → lo' ≤ lo → hi ≤ hi' → Kept lo hi t u → Kept lo' hi' t u
+kept-wide lo hi lo' hi' t u a b K = record {
+  size = K .size;
+  before = λ j h. K .before j (omega arith);
+  after = λ j h. K .after j (omega arith);
+}
+
+pub kept-then : (lo hi lo' hi' : ℕ) (t u v : List ℕ) → lo' ≤ lo → hi ≤ hi' → Kept lo' hi' t u → Kept lo hi u v → Kept lo' hi' t v
+kept-then lo hi lo' hi' t u v a b K L = record {
+  size = L .size ∙ K .size;
+  before = λ j h. L .before j (omega arith) ∙ K .before j h;
+  after = λ j h. L .after j (omega arith) ∙ K .after j h;
+}
 
 -- a table that is filled anew
 pub fill-again : (f g : ℕ → ℕ) (base n : ℕ) (t₀ t₁ t₂ : List ℕ) → Filled f base n t₀ t₁ → Filled g base n t₁ t₂ → Filled g base n t₀ t₂

@@ -1,16 +1,16 @@
 -- Vectors of a flat list: after a write; of a list made vector by vector; and that two lists with the same vectors are the same.
 use mathlib.Core.Path.{_≡_, refl, sym, ap, _∙_}
-use mathlib.Core.List.{List}
+use mathlib.Core.List.{List, _++_}
 use Prim.Native.Nat.{ℕ, zero, suc, _+_, _*_, _/_, _%_, _<_, _≤_}
 use native.Mathlib.Omega.{arith}
 use native.Mathlib.Nat.{add-zero}
-use lib.ListN.{length, getD}
-use lib.Seq.{ext-getD}
+use lib.ListN.{length, getD, drop, List·getD-append}
+use lib.Seq.{ext-getD, getD-drop}
 use lib.Ieee.{Float, nan}
-use Rattle.lists.specs.Put.{put}
-use Rattle.lists.proofs.Puts.{length-upto, getD-put-past, getD-put-before, getD-put-in, upto-at}
+use Rattle.lists.specs.Put.{put, upto}
+use Rattle.lists.proofs.Puts.{length-upto, getD-put-past, getD-put-before, getD-put-in, upto-at, put-all}
 use Rattle.vectors.specs.declared.Vec3.{Vec3}
-use Rattle.vectors.specs.Vec.{floats, vecAt, floatsOf}
+use Rattle.vectors.specs.Vec.{floats, vecAt, floatsOf, eight, vpast}
 
 -- a vector past what was written is as it was, and so is one before it
 pub vec-past : (l : List Float) (a : ℕ) (xs : List Float) (j : ℕ) → a + length xs ≤ 3 * j → vecAt (put l a xs) j ≡ vecAt l j
@@ -24,6 +24,24 @@ unfolding vecAt
 vec-before l a xs j h =
     let at : (k : ℕ) → k < a → getD (put l a xs) k nan ≡ getD l k nan = λ k hk. getD-put-before l a xs k nan hk in
     rw (at (3 * j) (omega arith), at (3 * j + 1) (omega arith), at (3 * j + 2) (omega arith))
+
+-- pieces of three floats each: a vector past those written is the old one, and where they fill the list they are the list
+pub vec-still : (l : List Float) (a : ℕ) (f : ℕ → List Float) (i j : ℕ) {b : List Float} → ((k : ℕ) → length (f k) ≡ 3)
+    → b ≡ put l a (upto f i) → a + 3 * i ≤ 3 * j → vecAt b j ≡ vecAt l j
+vec-still l a f i j h3 e h = ap (λ (m : List Float). vecAt m j) e ∙ vec-past l a (upto f i) j (omega (arith, length-upto f 3 i (λ k _. h3 k)))
+
+pub vec-whole : (f : ℕ → List Float) (n m : ℕ) (l : List Float) {b : List Float} → ((k : ℕ) → length (f k) ≡ 3)
+    → b ≡ put l 0 (upto f m) → length l ≡ 3 * n → m ≡ n → b ≡ upto f n
+vec-whole f n m l h3 e h hm =
+    put-all l (upto f n) (e ∙ ap (λ (k : ℕ). put l 0 (upto f k)) hm) (omega (arith, length-upto f 3 n (λ k _. h3 k)))
+
+-- a vector of what is left from 3n on
+pub vec-drop : (l : List Float) (n j : ℕ) → vecAt (drop (3 * n) l) j ≡ vecAt l (n + j)
+unfolding vecAt
+vec-drop l n j =
+    let at : (k m : ℕ) → 3 * n + k ≡ m → getD (drop (3 * n) l) k nan ≡ getD l m nan =
+    λ k m e. getD-drop (3 * n) l k nan ∙ ap (λ (i : ℕ). getD l i nan) e in
+    rw (at (3 * j) (3 * (n + j)) (omega arith), at (3 * j + 1) (3 * (n + j) + 1) (omega arith), at (3 * j + 2) (3 * (n + j) + 2) (omega arith))
 
 -- a vector that was written is there
 pub vec-in : (l : List Float) (i : ℕ) (v : Vec3) → 3 * i + 3 ≤ length l → vecAt (put l (3 * i) (floats v)) i ≡ v
@@ -43,6 +61,19 @@ floats-at v n i h =
 
 pub length-floats : (v : ℕ → Vec3) (n : ℕ) → length (floatsOf v n) ≡ 3 * n
 length-floats v n = omega (arith, length-upto (λ (i : ℕ). floats (v i)) 3 n (λ _ _. refl))
+
+-- eight of them, and the first, of a list that goes on
+pub length-eight : (ps : List Vec3) → length (eight ps) ≡ 24
+unfolding eight
+length-eight ps = length-upto _ 3 8 (λ _ _. refl)
+
+pub first-eight : (ps : List Vec3) (l : List Float) → vecAt (eight ps ++ l) 0 ≡ getD ps 0 vpast
+unfolding eight upto vecAt
+first-eight ps l = refl
+
+pub first-vertex : (xs ys : List Float) → 3 ≤ length xs → vecAt (xs ++ ys) 0 ≡ vecAt xs 0
+unfolding vecAt
+first-vertex xs ys h = rw (List·getD-append xs ys nan (3 * 0) (omega arith), List·getD-append xs ys nan (3 * 0 + 1) (omega arith), List·getD-append xs ys nan (3 * 0 + 2) (omega arith))
 
 -- a place of a list is a part of one of its vectors
 place : (a b : List Float) (i r : ℕ) → r < 3 → vecAt a i ≡ vecAt b i → getD a (3 * i + r) nan ≡ getD b (3 * i + r) nan
