@@ -5,8 +5,8 @@ use mathlib.Core.List.{List}
 use Prim.Native.Nat.{ℕ, _+_, _-_, _*_, _≤_, _<_}
 use native.Mathlib.Omega.{arith}
 use lib.ListN.{length, take, drop, getD}
-use lib.Seq.{getD-take, getD-drop}
 use lib.Ieee.{Float, nan, lt, eq, le, isNan}
+use Rattle.lists.proofs.Any.{part-place}
 use Rattle.boxes.specs.Box.{boxOf}
 use Rattle.boxes.proofs.Foremost.{First}
 use Rattle.boxes.proofs.Boxes.{holds, touched, nan-shows, between, apart}
@@ -23,23 +23,20 @@ abbrev pub Touched : List Float → ℕ → ℕ → ℕ → Float → Type 0
 Touched P v m a w =
     (j : ℕ) × (v ≤ j) × (j < v + m) × (getD P (3 * j + a) nan ≡ w) × ((i : ℕ) → v ≤ i → i < j → eq (getD P (3 * i + a) nan) w ≡ false)
 
-place-of : (l xs : List Float) (s n i : ℕ) → take n (drop s l) ≡ xs → i < n → getD xs i nan ≡ getD l (s + i) nan
-place-of l xs s n i e h = rw (← e, getD-take, getD-drop)
-
 module _ {xs P B : List Float} {v m k : ℕ} (t : Boxed xs P B v m k) (a : ℕ) (axis : a < 3) where
   vertex : (j : ℕ) → v ≤ j → j < v + m → getD xs (3 * (j - v) + a) nan ≡ getD P (3 * j + a) nan
   vertex j p q =
       let e : 3 * v + (3 * (j - v) + a) ≡ 3 * j + a = omega arith in
-      rw e at (place-of P xs (3 * v) (3 * m) (3 * (j - v) + a) (t .vertices) (omega arith))
+      sym (rw e at (part-place P (3 * v) (3 * m) (3 * (j - v) + a) nan (t .vertices) (omega arith)))
 
   first : getD xs a nan ≡ getD P (3 * v + a) nan
-  first = place-of P xs (3 * v) (3 * m) a (t .vertices) (omega (arith, t .nonempty))
+  first = sym (part-place P (3 * v) (3 * m) a nan (t .vertices) (omega (arith, t .nonempty)))
 
   low : getD (boxOf xs) a nan ≡ getD B (6 * k + a) nan
-  low = place-of B (boxOf xs) (6 * k) 6 a (t .box) (omega arith)
+  low = sym (part-place B (6 * k) 6 a nan (t .box) (omega arith))
 
   high : getD (boxOf xs) (3 + a) nan ≡ getD B (6 * k + 3 + a) nan
-  high = let e : 6 * k + (3 + a) ≡ 6 * k + 3 + a = omega arith in rw e at (place-of B (boxOf xs) (6 * k) 6 (3 + a) (t .box) (omega arith))
+  high = let e : 6 * k + (3 + a) ≡ 6 * k + 3 + a = omega arith in sym (rw e at (part-place B (6 * k) 6 (3 + a) nan (t .box) (omega arith)))
 
   -- no vertex lies outside
   pub tube-holds : (j : ℕ) → v ≤ j → j < v + m → (lt (getD P (3 * j + a) nan) (getD B (6 * k + a) nan) ≡ false)
