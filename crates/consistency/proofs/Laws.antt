@@ -7,8 +7,7 @@ use mathlib.Core.Path.{_≡_, refl, sym, ap, _∙_}
 use native.Mathlib.Nat.{add-zero, eq-or-lt-of-le, le-of-suc-le-suc}
 use native.Mathlib.Omega.{arith}
 use native.Mathlib.Numerals.{add-one}
-use lib.ListN.{length, getD, take, drop, length-take, length-drop}
-use lib.Seq.{getD-take, getD-drop}
+use lib.ListN.{length, getD}
 use lib.Dec.{eqb, ltb, leb}
 use borrow.Author.Tests.{lt-ltb, le-leb, lt-leb, eq-eqb, ne-eqb, ltb-true, ltb-false, leb-true, leb-false, le-ltb, eqb-true}
 use Rattle.lists.specs.Search.{every}
@@ -22,12 +21,6 @@ use Rattle.edges.specs.Tube.{vertices, triangles, vertexTotal, triangleTotal, v
 use Rattle.edges.proofs.Count.{lt-or-le}
 use Rattle.edges.proofs.Theorems.{no-tube, vertex-count, triangle-count, mesh-totals}
 use Rattle.consistency.specs.Consistent.{kindAt, residuesAt, firstVertexAt, firstTriangleAt, recordFits, cornersIn, residuesTo, vertexStart, triangleStart, tubesFit, consistentIn}
-
--- where the last of three tests fails
-pub and-lost : (a b : Bool) → (a && (b && false)) ≡ false
-and-lost true true = refl
-and-lost true false = refl
-and-lost false b = refl
 
 -- ---- a record: which test it fails by
 module _ (tubes : List ℕ) (v t i : ℕ) where
@@ -146,15 +139,6 @@ two-of n =
 pub two-each : (tubes : List ℕ) (k : ℕ) → triangleStart 8 8 tubes k ≤ 2 * vertexStart 8 8 tubes k
 two-each tubes zero = omega (arith, start-none 8 8 tubes, triangle-none 8 8 tubes)
 two-each tubes (suc k) = rw (← add-one k) (omega (arith, start-more 8 8 tubes k, triangle-more 8 8 tubes k, two-each tubes k, two-of (residuesAt tubes k)))
-
--- ---- a part of a list, by its places
-
--- place j of the list is a place of the part of w places from a on
-pub place : (l : List ℕ) (a w j : ℕ) → a ≤ j → j < a + w → a + w ≤ length l
-    → (j - a < length (take w (drop a l))) × (getD (take w (drop a l)) (j - a) 0 ≡ getD l j 0)
-place l a w j h m n =
-    let e : a + (j - a) ≡ j = omega arith in
-    (simp (length-take, length-drop) (omega arith), getD-take w (drop a l) (j - a) 0 (omega arith) ∙ getD-drop a l (j - a) 0 ∙ ap (λ (k : ℕ). getD l k 0) e)
 
 -- ---- the buffers: which test they fail by, of which sizes nothing else is known
 module _ (p d : ℕ) (s : Sizes) (tubes corners : List ℕ) (c : Counts) where

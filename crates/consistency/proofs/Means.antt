@@ -1,12 +1,14 @@
 -- What the definition means (specs/Means), both ways, over any p and d; and what a program that reads a consistent mesh may build on. Assumes nothing.
 use Prim.Native.Nat.{ℕ, _+_, _*_, _-_, _<_, _≤_}
 use mathlib.Core.Bool.{true, not}
-use mathlib.Core.Path.{_≡_}
+use mathlib.Core.Path.{_≡_, refl}
 use native.Mathlib.Omega.{arith}
-use lib.ListN.{length, getD}
+use lib.ListN.{length, getD, drop, length-drop}
+use lib.Seq.{length-take-le}
 use lib.Dec.{eqb, leb}
 use borrow.Author.Tests.{le-leb, eq-eqb, leb-true, eqb-true, not-true}
 use Rattle.lists.specs.Search.{every}
+use Rattle.lists.proofs.Any.{part-place}
 use Rattle.lists.proofs.Bools.{and-both}
 use Rattle.lists.proofs.Searches.{every-takes, takes-every}
 use Rattle.buffers.specs.declared.Counts.{Counts}
@@ -16,7 +18,7 @@ use Rattle.edges.specs.Sound.{CornersIn}
 use Rattle.edges.specs.Tube.{vertices, triangles}
 use Rattle.consistency.specs.Consistent.{kindAt, residuesAt, firstVertexAt, firstTriangleAt, vertexStart, triangleStart, recordFits, ownCorners, tubeFits, tubesFit, consistentIn, consistent}
 use Rattle.consistency.specs.Means.{cornersOf, IsConsistent}
-use Rattle.consistency.proofs.Laws.{record-means, means-record, corners-mean, mean-corners, rising, part-of, place, start-more, start-up, triangle-none, triangle-more, two-each}
+use Rattle.consistency.proofs.Laws.{record-means, means-record, corners-mean, mean-corners, rising, part-of, start-more, start-up, triangle-none, triangle-more, two-each}
 
 module _ (p d : ℕ) (o : Outs) (c : Counts) where
   -- of one tube
@@ -87,12 +89,15 @@ module _ (p d : ℕ) (o : Outs) (c : Counts) where
       let r = part-of f w m z (c .tubes) j (omega (arith, C .triangleEnd)) in
       let i = r .0 in
       let u = rising f w m (i + 1) (c .tubes) (omega (arith, r .1 .0)) in
-      let at : (j - f i < length (cornersOf p d o i)) × (getD (cornersOf p d o i) (j - f i) 0 ≡ getD (o .triangles) j 0) =
-      place (o .triangles) (f i) (w i) j (r .1 .1 .0) (r .1 .1 .1) (omega (arith, u, m i, C .triangleEnd, C .room .triangles)) in
+      let e : f i + (j - f i) ≡ j = omega (arith, r .1 .1 .0) in
+      let at : getD (o .triangles) j 0 ≡ getD (cornersOf p d o i) (j - f i) 0 =
+      rw e at (part-place (o .triangles) (f i) (w i) (j - f i) 0 refl (omega (arith, r .1 .1 .1))) in
+      let n : length (cornersOf p d o i) ≡ w i =
+      length-take-le (w i) (drop (f i) (o .triangles)) (omega (arith, length-drop (f i) (o .triangles), u, m i, C .triangleEnd, C .room .triangles)) in
       omega (
         arith,
-        C .corners i (r .1 .0) (j - f i) (at .0) .1,
-        at .1,
+        C .corners i (r .1 .0) (j - f i) (omega (arith, n, r .1 .1 .1)) .1,
+        at,
         start-more p d (o .tubes) i,
         start-up p d (o .tubes) (i + 1) (c .tubes) (omega (arith, r .1 .0)),
         C .vertexEnd,

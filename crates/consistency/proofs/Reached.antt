@@ -13,7 +13,7 @@ use Rattle.lists.proofs.Searches.{every-none, every-more, every-lost}
 use Rattle.buffers.specs.declared.Counts.{Counts}
 use Rattle.edges.specs.Tube.{vertexCount, triangleCount}
 use Rattle.consistency.specs.Consistent.{residuesAt, vertexStart, triangleStart, recordFits, cornersIn, ownCorners, tubeFits, tubesFit}
-use Rattle.consistency.proofs.Laws.{start-none, start-more, start-up, triangle-none, triangle-more, triangle-up, and-lost}
+use Rattle.consistency.proofs.Laws.{start-none, start-more, start-up, triangle-none, triangle-more, triangle-up}
 
 -- the sums are those of the first i tubes, which fit, and not past V and T
 pub record Reached (tubes corners : List ℕ) (c : Counts) (vertex triangle i : ℕ) : Type 0 where
@@ -82,7 +82,7 @@ module _ (tubes corners : List ℕ) (c : Counts) (vertex triangle i : ℕ) (R : 
       let b = triangle-more 8 8 tubes i in
       let n : eqb (triangleStart 8 8 tubes (c .tubes)) (c .triangles) ≡ false =
       ne-eqb (triangleStart 8 8 tubes (c .tubes)) (c .triangles) (λ q. absurd (omega (arith, a, b, R .triangle-is))) in
-      rw n (and-lost (every (tubeFits 8 8 tubes corners) (c .tubes)) (eqb (vertexStart 8 8 tubes (c .tubes)) (c .vertices)))
+      rw n (simp and-false)
 
   -- nor at V where one ends past it
   pub past-lost : (past : ℕ) → past ≡ vertex + vertexCount (residuesAt tubes i) → i < c .tubes → c .vertices < past
