@@ -1,13 +1,16 @@
-use Prim.Native.Nat.{_+_, _*_}
-use Rattle.protein.proofs.Laws.{part-long}
+use Prim.Native.Nat.{ℕ, _+_, _*_}
+use mathlib.Core.Path.{ap}
+use native.Mathlib.Nat.{add-sub-cancel-left}
+use lib.ListN.{take, drop}
 use borrow.Author.Needs.{needs}
 use Rattle.protein.proofs.records.Statement.{statement}
 use Rattle.protein.proofs.records.Tie as tie
 
 returns : tie.Need-returns
 returns c =
-    let h = c .before .before .before .args .h in
-    part-long (13 + h .chains) (9 * h .segments) (c .before .before .before .args .b .now)
+    let args = c .before .before .before .args in
+    let from = 13 + args .h .chains in
+    ap (λ (n : ℕ). take n (drop from (args .b .now))) (add-sub-cancel-left from (9 * args .h .segments))
 
 pub records-spec : {M : Type 1} → statement M
 records-spec =
