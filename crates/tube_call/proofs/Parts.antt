@@ -18,9 +18,6 @@ tested : (t : Bool) (l : List ℕ) → (length (cond t l []) ≡ 0 → ⊥) → 
 tested true l h = refl
 tested false l h = absurd (h refl)
 
-third-of : (a b c d : Bool) → (a && (b && (c && d))) ≡ true → d ≡ true
-third-of a b c d e = and-right c d (and-right b (c && d) (and-right a (b && (c && d)) e))
-
 module _ (tubes triangles : List ℕ) (k : ℕ) where
   abbrev from : ℕ
   from = 3 * getD tubes (5 * k + 4) 0
@@ -49,7 +46,7 @@ module _ (tubes triangles : List ℕ) (k : ℕ) where
   part-full n e h =
       let t : test ≡ true = full (λ z. h (e ∙ z)) in
       let i : from + size ≤ length triangles =
-      leb-true (from + size) (length triangles) (third-of (ltb k (length tubes / 5)) (leb 2 many) (leb many 16384) (leb (from + size) (length triangles)) t) in
+      leb-true (from + size) (length triangles) (and-right (leb many 16384) _ (and-right (leb 2 many) _ (and-right (ltb k (length tubes / 5)) _ t))) in
       let m : n ≡ size = e ∙ ap length (whole t) ∙ length-take-le size (drop from triangles) (simp length-drop (omega arith)) in
       record { size = e; begin = rw (ne-eqb n 0 h); within = omega arith; there = record { part = rw m (sym (whole t)) } }
 
