@@ -2,11 +2,13 @@
 use Prim.Native.Nat.{ℕ, _+_, _-_, _<_, _≤_}
 use mathlib.Core.Bool.{false}
 use mathlib.Core.List.{List, [], _∷_, _++_}
-use mathlib.Core.Path.{_≡_, sym, _∙_, ap, subst}
+use mathlib.Core.Path.{_≡_, refl, sym, _∙_, ap, subst}
 use mathlib.Core.Logic.{_⊎_, ⊎-elim}
+use native.Mathlib.Nat.{add-sub-cancel-left}
 use native.Mathlib.Omega.{arith}
 use lib.ListN.{length, getD, take, drop, length-append, length-take, length-drop, take-append-drop, List·getD-append}
 use lib.Seq.{length-take-le, take-at, drop-at, take-append-le, drop-append-add, take-add, take-take, drop-drop, getD-append-add, getD-take, getD-drop}
+use Rattle.lists.proofs.Any.{part-place}
 use Rattle.lists.proofs.Bools.{or-no}
 use Rattle.buffers.specs.Outs.{Outs, outs, Sizes, sizes, sizesOf}
 use Rattle.shares.specs.declared.Share.{Share}
@@ -23,19 +25,15 @@ lentPart s l = take (s .start + s .len - s .start) (drop (s .start) l)
 abbrev pub lentBack : {A : Type 0} → Share → List A → List A → List A
 lentBack s l xs = take (s .start) l ++ (xs ++ drop (s .start + s .len - s .start) (drop (s .start) l))
 
--- how long the part is
-lent-length : (a n : ℕ) → a + n - a ≡ n
-lent-length a n = omega arith
-
 -- what is lent is the share
 pub part-as : {A : Type 0} (s : Share) (l : List A) → lentPart s l ≡ part s l
 unfolding part
-part-as s l = ap (λ (n : ℕ). take n (drop (s .start) l)) (lent-length (s .start) (s .len))
+part-as s l = ap (λ (n : ℕ). take n (drop (s .start) l)) (add-sub-cancel-left (s .start) (s .len))
 
 -- what is given back stands in its place
 pub back-as : {A : Type 0} (s : Share) (l xs : List A) → lentBack s l xs ≡ within s l xs
 unfolding within
-back-as s l xs = ap (λ (n : ℕ). take (s .start) l ++ (xs ++ drop n (drop (s .start) l))) (lent-length (s .start) (s .len))
+back-as s l xs = ap (λ (n : ℕ). take (s .start) l ++ (xs ++ drop n (drop (s .start) l))) (add-sub-cancel-left (s .start) (s .len))
 
 -- ---- one buffer: what is where
 
@@ -47,7 +45,7 @@ within-part s l = rw (take-append-drop, take-append-drop)
 -- a place of a share
 pub part-at : {A : Type 0} (s : Share) (l : List A) (i : ℕ) (d : A) → i < s .len → getD (part s l) i d ≡ getD l (s .start + i) d
 unfolding part
-part-at s l i d h = getD-take (s .len) (drop (s .start) l) i d h ∙ getD-drop (s .start) l i d
+part-at s l i d h = sym (part-place l (s .start) (s .len) i d refl h)
 
 -- a share that lies in the buffer has all its places
 pub length-part : {A : Type 0} (s : Share) (l : List A) → s .start + s .len ≤ length l → length (part s l) ≡ s .len

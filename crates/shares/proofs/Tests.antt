@@ -2,11 +2,11 @@
 use Prim.Native.Nat.{ℕ, _+_, _-_, _<_, _≤_}
 use mathlib.Core.Bool.{Bool, true, false, _&&_, _||_, and-comm, and-true, and-false}
 use mathlib.Core.Path.{_≡_, refl, sym}
-use mathlib.Core.Logic.{_⊎_, inl, inr, ⊎-elim}
+use mathlib.Core.Logic.{inl, inr, ⊎-elim}
 use native.Mathlib.Omega.{arith}
 use lib.Dec.{ltb}
 use borrow.Author.Tests.{lt-ltb, le-ltb, ltb-true, ltb-false}
-use Rattle.lists.proofs.Bools.{or-no}
+use Rattle.lists.proofs.Bools.{and-no, or-no}
 use Rattle.shares.specs.declared.Share.{Share}
 use Rattle.shares.specs.Shares.{leaves, meets, badShare, Clear}
 
@@ -64,11 +64,6 @@ leaves-not n s e = ltb-false n (s .start + s .len) e
 pub not-leaves : (n : ℕ) (s : Share) → s .start + s .len ≤ n → leaves n s ≡ false
 unfolding leaves
 not-leaves n s h = le-ltb n (s .start + s .len) h
-
--- one of two tests is false
-and-no : (a b : Bool) → (a && b) ≡ false → (a ≡ false) ⊎ (b ≡ false)
-and-no true b e = inr e
-and-no false b e = inl refl
 
 module _ (a b : Share) where
   -- two that do not overlap: one is empty, or one ends before the other starts
