@@ -75,10 +75,6 @@ sizes-fine s h₁ h₂ h₃ h₄ h₅ h₆ =
       eq-eqb (length s) (jobSize (headOf s)) h₆,
     )
 
--- the last of three tests decides where the others fail
-pub or-last : {a b c x : Bool} → a ≡ false → b ≡ false → x ≡ c → x ≡ (a || (b || c))
-or-last {a} {b} {c} {x} p q r = rw (p, q, r)
-
 -- a job that passes the checks is whole
 pub check-whole : (s : List ℕ) (h : Head) → check s ≡ Fine h → Whole s h
 check-whole s h e = sizes-whole s h (check-parts s h e .0)

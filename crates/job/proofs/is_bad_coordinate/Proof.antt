@@ -5,7 +5,7 @@ use Rattle.protein.specs.Layout.{atomAt}
 use Rattle.numbers.specs.Bytes.{u64At}
 use Rattle.job.specs.Coordinate.{within}
 use Rattle.job.specs.Check.{badCoordinate}
-use Rattle.job.proofs.Laws.{or-last}
+use Rattle.lists.proofs.Bools.{or-last}
 use borrow.Author.Needs.{needs}
 use Rattle.job.proofs.is_bad_coordinate.Statement.{statement}
 use Rattle.job.proofs.is_bad_coordinate.Tie as tie
