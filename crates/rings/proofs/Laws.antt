@@ -4,10 +4,12 @@ use mathlib.Core.List.{List, [], _++_}
 use Prim.Native.Nat.{ℕ, _+_, _*_, _≤_}
 use native.Mathlib.Omega.{arith}
 use native.Mathlib.Nat.{mul-assoc}
-use lib.Ieee.{Float, nan}
-use lib.ListN.{length, getD, List·getD-append}
+use lib.Ieee.{Float}
+use lib.ListN.{length, getD}
 use Rattle.vectors.specs.declared.Vec3.{Vec3}
-use Rattle.vectors.specs.Vec.{vecAt, eight, vpast}
+use Rattle.vectors.specs.Vec.{eight, vpast}
+use Rattle.vectors.proofs.Flat.{first-eight}
+pub use Rattle.vectors.proofs.Flat.{length-eight, first-vertex}
 use Rattle.lists.specs.Put.{put, upto}
 use Rattle.lists.proofs.Puts.{next, turn, kept, length-upto, upto-more}
 use Rattle.boxes.specs.declared.Bounds.{Bounds}
@@ -73,23 +75,10 @@ same-room v x y z {m} w r = room v x y z m w r m (omega arith)
 pub less : {p n : List Float} {t : List ℕ} (m k : ℕ) → VertexRoom p n t m → k ≤ m → VertexRoom p n t k
 less m k r h = record { pos = omega (arith, r .pos); norm = omega (arith, r .norm); tag = omega (arith, r .tag) }
 
-pub length-eight : (ps : List Vec3) → length (eight ps) ≡ 24
-unfolding eight
-length-eight ps = length-upto _ 3 8 (λ _ _. refl)
-
 -- nothing is written yet, and the box is as it was
 pub wrote-none : (b : Bounds) (p n : List Float) (t : List ℕ) (v : ℕ) → Wrote b p n t v [] [] [] b p n t
 unfolding put
 wrote-none b p n t v = record { pos = refl; norm = refl; tag = refl; box = grown-none b }
-
--- the first vertex of a list is that of its front, and of a ring its first
-pub first-vertex : (xs ys : List Float) → 3 ≤ length xs → vecAt (xs ++ ys) 0 ≡ vecAt xs 0
-unfolding vecAt
-first-vertex xs ys h = rw (List·getD-append xs ys nan (3 * 0) (omega arith), List·getD-append xs ys nan (3 * 0 + 1) (omega arith), List·getD-append xs ys nan (3 * 0 + 2) (omega arith))
-
-first-eight : (ps : List Vec3) (l : List Float) → vecAt (eight ps ++ l) 0 ≡ getD ps 0 vpast
-unfolding eight upto vecAt
-first-eight ps l = refl
 
 -- a box that was begun with the first vertex of a ring
 pub began-ring : {b c : Bounds} {p₀ n₀ p n : List Float} {t₀ t : List ℕ} {v : ℕ} (ps : List Vec3) (l : List Float) {ys : List Float} {zs : List ℕ}
