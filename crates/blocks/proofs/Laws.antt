@@ -7,9 +7,9 @@ use native.Mathlib.Omega.{arith}
 use lib.Dec.{ltb}
 use lib.Ieee.{Float}
 use lib.ListN.{length, getD, take, drop, length-take, length-drop}
-use lib.Seq.{getD-take, getD-drop}
 use borrow.Author.Tests.{ltb-true, ltb-false, lt-ltb, le-ltb}
 use Rattle.lists.specs.Put.{put, upto}
+use Rattle.lists.proofs.Any.{part-place}
 use Rattle.facets.specs.Facets.{Drawn, facetsOf, stlHead, stlBytes}
 use Rattle.facets.proofs.Laws.{long-facets, facets-front, facets-split}
 use Rattle.blocks.specs.Blocks.{facetsIn, cornersIn, blockAt, blockCount}
@@ -27,7 +27,7 @@ pub drawn-part : (ps : List Float) (l : List ℕ) (a n : ℕ) → Drawn ps l →
 drawn-part ps l a n d f j h =
     let w : length (drop a l) ≡ length l - a = length-drop a l in
     let u : length (take n (drop a l)) ≡ n = omega (arith, length-take n (drop a l)) in
-    let e : getD (take n (drop a l)) j 0 ≡ getD l (a + j) 0 = getD-take n (drop a l) j 0 (omega arith) ∙ getD-drop a l j 0 in
+    let e : getD (take n (drop a l)) j 0 ≡ getD l (a + j) 0 = sym (part-place l a n j 0 refl (omega arith)) in
     rw e (d (a + j) (omega arith))
 
 -- how long a block is

@@ -7,9 +7,10 @@ use native.Mathlib.Numerals.{add-one}
 use native.Mathlib.Omega.{arith}
 use lib.Dec.{eqb}
 use lib.ListN.{length, take, drop, getD, length-drop, length-take, drop-of-length-le}
+use Rattle.lists.proofs.Any.{part-place}
 use Rattle.lists.proofs.Sames.{same-length, same-all, same-one}
 use Rattle.pdb_lines.specs.Columns.{named}
-use lib.Seq.{getD-take, drop-cons, take-suc, getD-drop, drop-drop}
+use lib.Seq.{drop-cons, take-suc, getD-drop, drop-drop}
 use borrow.Author.Tests.{eq-eqb, ne-eqb}
 use Rattle.pdb_lines.specs.Lines.{lines, atLf, onto}
 use Rattle.pdb_lines.specs.Post.{ending}
@@ -144,9 +145,9 @@ module _ (l name : List ℕ) (from : ℕ) where
   pub named-no : (i : ℕ) → length name ≤ length l - from → i < length name → (getD l (from + i) 0 ≡ getD name i 0 → ⊥) → false ≡ named name (from + 1) l
   unfolding named
   named-no i h b d =
-      rw (at-column, same-one (take (length name) (drop from l)) name i b (λ e. d (sym (getD-take (length name) (drop from l) i 0 b ∙ getD-drop from l i 0) ∙ e)) (cut-length h))
+      rw (at-column, same-one (take (length name) (drop from l)) name i b (λ e. d (part-place l from (length name) i 0 refl b ∙ e)) (cut-length h))
 
   pub named-yes : length name ≤ length l - from → ((k : ℕ) → k < length name → getD l (from + k) 0 ≡ getD name k 0) → true ≡ named name (from + 1) l
   unfolding named
   named-yes h d =
-      rw (at-column, same-all (take (length name) (drop from l)) name (cut-length h) (λ k b. getD-take (length name) (drop from l) k 0 b ∙ getD-drop from l k 0 ∙ d k b))
+      rw (at-column, same-all (take (length name) (drop from l)) name (cut-length h) (λ k b. sym (part-place l from (length name) k 0 refl b) ∙ d k b))
