@@ -4,14 +4,14 @@ use mathlib.Core.List.{List, [], _++_, append-nil}
 use Prim.Native.Nat.{ℕ, _+_, _*_, _-_, _≤_}
 use native.Mathlib.Omega.{arith}
 use native.Mathlib.Numerals.{add-one}
-use lib.ListN.{length, getD, take, drop, length-drop, drop-of-length-le}
-use lib.Seq.{getD-drop, take-at, drop-at, length-take-le}
-use lib.Ieee.{Float, nan}
+use lib.ListN.{length, take, drop, length-drop, drop-of-length-le}
+use lib.Seq.{take-at, drop-at, length-take-le}
+use lib.Ieee.{Float}
 use Rattle.vectors.specs.declared.Vec3.{Vec3}
 use Rattle.vectors.specs.Vec.{vadd, floats, vecAt, floatsOf}
-use Rattle.vectors.proofs.Flat.{vec-past, length-floats}
+use Rattle.vectors.proofs.Flat.{vec-still, vec-drop, length-floats}
 use Rattle.lists.specs.Put.{put, upto}
-use Rattle.lists.proofs.Puts.{turn, length-upto, put-all, put-tail, take-put}
+use Rattle.lists.proofs.Puts.{turn, put-tail, take-put}
 use Rattle.shape.specs.declared.Kind.{Kind}
 use Rattle.shape.specs.declared.Kind.the-variants.{Coil, Helix, Sheet}
 use Rattle.shape.specs.declared.Oxygen.{Oxygen}
@@ -20,24 +20,6 @@ use Rattle.smooth.specs.Pass.{vectors}
 use Rattle.smooth.proofs.Laws.{long-guides, long-positions, vectors-of}
 use Rattle.curve.specs.Residues.{oxygenAt, rawAt, signedAt, signed, sumOf, same, settled, guidesOf, pointsOf}
 use Rattle.lists.proofs.Any.{rest}
-
-pub whole : (f : ℕ → List Float) (n m : ℕ) (l : List Float) {b : List Float} → ((k : ℕ) → length (f k) ≡ 3)
-    → b ≡ put l 0 (upto f m) → length l ≡ 3 * n → m ≡ n → b ≡ upto f n
-whole f n m l h3 e h hm =
-    put-all l (upto f n) (e ∙ ap (λ (k : ℕ). put l 0 (upto f k)) hm) (omega (arith, length-upto f 3 n (λ k _. h3 k)))
-
--- a vector past what has been written is the old one
-pub still : (l : List Float) (a : ℕ) (f : ℕ → List Float) (i j : ℕ) {b : List Float} → ((k : ℕ) → length (f k) ≡ 3)
-    → b ≡ put l a (upto f i) → a + 3 * i ≤ 3 * j → vecAt b j ≡ vecAt l j
-still l a f i j h3 e h = ap (λ (m : List Float). vecAt m j) e ∙ vec-past l a (upto f i) j (omega (arith, length-upto f 3 i (λ k _. h3 k)))
-
--- a vector of what is left from 3n on
-vec-drop : (l : List Float) (n j : ℕ) → vecAt (drop (3 * n) l) j ≡ vecAt l (n + j)
-unfolding vecAt
-vec-drop l n j =
-    let at : (k m : ℕ) → 3 * n + k ≡ m → getD (drop (3 * n) l) k nan ≡ getD l m nan =
-    λ k m e. getD-drop (3 * n) l k nan ∙ ap (λ (i : ℕ). getD l i nan) e in
-    rw (at (3 * j) (3 * (n + j)) (omega arith), at (3 * j + 1) (3 * (n + j) + 1) (omega arith), at (3 * j + 2) (3 * (n + j) + 2) (omega arith))
 
 next-signed : (raw : ℕ → Vec3) (i : ℕ) → signedAt raw (i + 1) ≡ agreeing (signedAt raw i) (raw (i + 1))
 unfolding signedAt
@@ -66,7 +48,7 @@ pub raw-still : (flags : List ℕ) (n : ℕ) (l : List Float) (f : ℕ → List 
 unfolding rawAt oxygenAt
 raw-still flags n l f i j {b} h3 e h =
     let et : take (3 * n) b ≡ take (3 * n) l = ap (take (3 * n)) e ∙ take-put (3 * n) l (3 * n) (upto f i) (omega arith) in
-    let ev : vecAt (drop (3 * n) b) j ≡ vecAt (drop (3 * n) l) j = vec-drop b n j ∙ still l (3 * n) f i (n + j) h3 e (omega arith) ∙ sym (vec-drop l n j) in
+    let ev : vecAt (drop (3 * n) b) j ≡ vecAt (drop (3 * n) l) j = vec-drop b n j ∙ vec-still l (3 * n) f i (n + j) h3 e (omega arith) ∙ sym (vec-drop l n j) in
     rw (et, ev)
 
 -- the guides over the oxygens, whole

@@ -6,7 +6,7 @@ use Rattle.lists.specs.Put.{put, upto}
 use Rattle.lists.proofs.Puts.{turn, kept}
 use Rattle.vectors.specs.Vec.{floatsOf}
 use Rattle.curve.specs.Residues.{same}
-use Rattle.curve.proofs.Laws.{whole}
+use Rattle.vectors.proofs.Flat.{vec-whole}
 use Rattle.curve.proofs.residues.fill.Statement.{statement}
 use Rattle.curve.proofs.residues.fill.Tie as tie
 
@@ -25,7 +25,7 @@ loop-again c = (omega arith, turn _ 3 (λ _. refl) _ 0 _ (c .before .before .bef
 
 returns : tie.Need-returns Inv-loop μ-loop
 unfolding same
-returns c = whole _ _ (c .before .loop .i) _ (λ _. refl) (c .before .loop .inv .1) (search needs) (omega arith)
+returns c = vec-whole _ _ (c .before .loop .i) _ (λ _. refl) (c .before .loop .inv .1) (search needs) (omega arith)
 
 pub fill-spec : {M : Type 1} → statement M
 fill-spec =
