@@ -1,10 +1,11 @@
 -- Reading numbers of bytes in a list that has another's bytes, moved or in their own place: in a ++ b before the end of a and past it, and in parts. Assumes nothing.
 use Prim.Native.Nat.{ℕ, _+_, _-_, _<_, _≤_}
-use mathlib.Core.Path.{_≡_, ap, _∙_}
+use mathlib.Core.Path.{_≡_, refl, sym, ap, _∙_}
 use mathlib.Core.List.{List, _++_}
 use native.Mathlib.Omega.{arith}
 use lib.ListN.{length, take, drop, getD, length-drop, List·getD-append}
-use lib.Seq.{getD-append-add, getD-take, getD-drop, length-take-le}
+use lib.Seq.{getD-append-add, getD-drop, length-take-le}
+use Rattle.lists.proofs.Any.{part-place}
 use Rattle.numbers.specs.Bytes.{u8At, u16At, u32At, u64At}
 use Rattle.numbers.proofs.Readback.{Holds}
 
@@ -50,6 +51,6 @@ agree-part s t i n m H = record {
       let w = length-take-le n (drop i s) (omega arith) in
       let x : p ≡ i + (r - i) = omega arith in
       let y : i + (r - i) ≡ r = omega arith in
-      ap (λ (k : ℕ). getD t k 0) x ∙ H .at (r - i) (omega arith) ∙ getD-take n (drop i s) (r - i) 0 (omega arith) ∙ getD-drop i s (r - i) 0
+      ap (λ (k : ℕ). getD t k 0) x ∙ H .at (r - i) (omega arith) ∙ sym (part-place s i n (r - i) 0 refl (omega arith))
       ∙ ap (λ (k : ℕ). getD s k 0) y;
 }

@@ -10,6 +10,7 @@ use lib.Dec.{eqb, ltb}
 use lib.ListN.{length, getD}
 use borrow.Author.Tests.{ltb-true}
 use Rattle.lists.specs.Search.{first}
+use Rattle.lists.proofs.Searches.{first-same}
 use Rattle.numbers.specs.Bytes.{u8At, u16At, u32At, u64At}
 use Rattle.protein.specs.declared.Head.{Head}
 use Rattle.protein.specs.Layout.{Whole, headOf, recordsOf, chainAt, atomAt, serialAt, lengthField, versionOf, jobSize}
@@ -27,7 +28,7 @@ use Rattle.joined.specs.Joined.{withRecords, withSegments, joinedAnswer}
 use Rattle.joined.proofs.Agree.{u16-agree, u32-agree, u64-agree}
 use Rattle.joined.proofs.Parts.{joined-length, length-said, count-said, fields-same, chains-same, atoms-same, records-there}
 
--- ---- laws of any jobs, searches and answers
+-- ---- laws of any jobs and answers
 -- two jobs that say the same are one
 pub job-same : (J K : Job) → J .atoms ≡ K .atoms → J .residues ≡ K .residues → ((c : ℕ) → J .visible c ≡ K .visible c) → ((a : ℕ) → J .serial a ≡ K .serial a)
     → ((a : ℕ) → J .role a ≡ K .role a) → ((a : ℕ) → J .residue a ≡ K .residue a) → ((a : ℕ) → J .chain a ≡ K .chain a) → J ≡ K
@@ -40,12 +41,6 @@ job-same J K a r v s o e c = λ i. record {
   residue = λ x. e x i;
   chain = λ x. c x i;
 }
-
--- two tests that agree below n have the same first
-pub first-same : (t u : ℕ → Bool) (n : ℕ) → ((i : ℕ) → i < n → t i ≡ u i) → first t n ≡ first u n
-unfolding first
-first-same t u zero h = refl
-first-same t u (suc n) h = rw (first-same t u n (λ i l. h i (omega arith)), h n (omega arith))
 
 -- a rung of the ladder of checks
 rung : (q : List ℕ) (v w : ℕ) (f : ℕ → Refusal) (x y : Checked) → v ≡ w → x ≡ joinedAnswer q y → orFirst v f x ≡ joinedAnswer q (orFirst w f y)
