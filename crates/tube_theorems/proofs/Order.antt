@@ -1,6 +1,6 @@
 -- The tubes of a list stand in order: by source, and in one source by their first residues. So none stands twice. Assumes nothing.
 use Prim.Native.Nat.{ℕ, zero, suc, _+_, _-_, _<_, _≤_}
-use mathlib.Core.Bool.{Bool, true, false, cond, _&&_}
+use mathlib.Core.Bool.{Bool, true, false, cond, _&&_, and-false}
 use mathlib.Core.List.{List, [], _∷_, _++_, map, append-nil}
 use mathlib.Core.Path.{_≡_, refl, sym, _∙_, ap}
 use mathlib.Core.Logic.{inl, inr, ⊎-elim}
@@ -15,7 +15,7 @@ use Rattle.protein.specs.Job.{Job, Segments}
 use Rattle.stretch.specs.Stretch.{range}
 use Rattle.tubes.specs.Frames.{chosen}
 use Rattle.tubes.specs.Pieces.{glue, pieces, apart}
-use Rattle.tubes.specs.Tubes.{Tube, given, shown, coilAlpha, segmentAlpha, frames, counts, covered, gap, tubeOf, tubesOf, runTubes, segmentTube, segmentTubes, joined, loose, leads, joins, extended, coilTubes, tubes}
+use Rattle.tubes.specs.Tubes.{Tube, given, shown, segmentAlpha, frames, counts, covered, gap, tubeOf, tubesOf, runTubes, segmentTube, segmentTubes, joined, loose, leads, joins, extended, coilTubes, tubes}
 use Rattle.tubes.specs.declared.Source.{Source}
 use Rattle.tubes.specs.declared.Source.the-variants.{Coils, Segment}
 use Rattle.mesh.specs.Mesh.{firstOf}
@@ -213,12 +213,7 @@ module _ (J : Job) (cov : ℕ → Bool) where
   unfolding joins loose
   joined-not r to e =
       let c : cov r ≡ true = and-left _ _ (and-right (ltb r (J .residues)) _ e) in
-      rw c (go (shown J r) (given (coilAlpha J r)))
-    where
-      go : (a b : Bool) → (a && (b && false)) ≡ false
-      go true true = refl
-      go true false = refl
-      go false b = refl
+      rw c (simp and-false)
 
   raise : (lo : ℕ) (rs : List (List ℕ)) → loose J cov lo ≡ false → Stacked suc Loose lo rs → Stacked suc Loose (suc lo) rs
   unfolding Stacked
