@@ -1,6 +1,6 @@
 -- Laws of check 9 and of the clearing. Assumes nothing.
 use Prim.Native.Nat.{ℕ, zero, suc, _+_, _-_, _*_, _<_, _≤_}
-use mathlib.Core.Bool.{Bool, true, false, _||_}
+use mathlib.Core.Bool.{Bool, true, false}
 use mathlib.Core.List.{List, [], _∷_, _++_}
 use mathlib.Core.Path.{_≡_, refl, sym, _∙_, ap}
 use native.Mathlib.Nat.{zero-add}
@@ -14,7 +14,9 @@ use Rattle.protein.specs.declared.Head.{Head}
 use Rattle.scratch.specs.Scratch.{Filled, Kept}
 use Rattle.job.specs.Check.{sizes}
 use Rattle.lists.proofs.Any.{drop-same}
-use Rattle.room.specs.Room.{shortScratch, zeroed}
+use Rattle.lists.proofs.Bools.{or-left, or-rest}
+use Rattle.buffers.specs.Outs.{Outs}
+use Rattle.room.specs.Room.{Scratch, Buffers, shortScratch, zeroed}
 
 pub zeroed-is : (n : ℕ) (t₀ t u : List ℕ) → n ≤ length t₀ → Kept 0 n t₀ t → Filled (λ r. 0) 0 n t u → u ≡ zeroed 0 n t₀
 zeroed-is n t₀ t u fits W F = ext-getD 0 u (zeroed 0 n t₀) sizes places
@@ -70,15 +72,11 @@ by-floats h w f x l e = rw (le-ltb w (8 * h .residues) l) e
 pub long-words : (h : Head) (w f : ℕ) → shortScratch h w f ≡ false → 8 * h .residues ≤ w
 unfolding shortScratch
 long-words h w f e = ltb-false w (8 * h .residues) (or-left (ltb w (8 * h .residues)) _ e)
-  where
-    or-left : (a b : Bool) → (a || b) ≡ false → a ≡ false
-    or-left false b q = refl
-    or-left true b q = q
 
 pub long-floats : (h : Head) (w f : ℕ) → shortScratch h w f ≡ false → 32 * h .residues ≤ f
 unfolding shortScratch
-long-floats h w f e = ltb-false f (32 * h .residues) (or-last (ltb w (8 * h .residues)) _ e)
-  where
-    or-last : (a b : Bool) → (a || b) ≡ false → b ≡ false
-    or-last false b q = q
-    or-last true b q = let z : _≡_ {A = ℕ} 0 1 = cc in absurd (omega arith)
+long-floats h w f e = ltb-false f (32 * h .residues) (or-rest (ltb w (8 * h .residues)) _ e)
+
+-- buffers that hold the same are one
+pub buffers-same : (b d : Buffers) → b .outs ≡ d .outs → b .scratch ≡ d .scratch → b ≡ d
+buffers-same b d e f = ap (λ (o : Outs). record { outs = o; scratch = b .scratch }) e ∙ ap (λ (c : Scratch). record { outs = d .outs; scratch = c }) f
