@@ -11,9 +11,9 @@ use Rattle.job.specs.Refusals.{numberOf}
 use Rattle.job.specs.declared.Refusal.{Refusal}
 use Rattle.job.specs.declared.Refusal.the-variants.{NoScratch, TooManyVertices, NoRoom}
 use Rattle.mesh.specs.Mesh.{vertexSum, triangleSum}
-use Rattle.buffers.specs.Outs.{Outs}
 use Rattle.buffers.specs.declared.Counts.{Counts}
-use Rattle.room.specs.Room.{Scratch, Buffers, lent, shortScratch, cleared}
+use Rattle.room.specs.Room.{Buffers, lent, shortScratch, cleared}
+use Rattle.room.proofs.Laws.{buffers-same}
 use Rattle.promises.specs.declared.Built.{Built}
 use Rattle.promises.specs.declared.Built.the-variants.{Mesh, NoMesh}
 use Rattle.promises.specs.Calls.{countsOf, buildChecks, buildAnswer, filled, outsBy, scratchAfter, Builds}
@@ -27,10 +27,7 @@ use Rattle.promises.proofs.Parts.{holds, fronts}
 -- ---- one result
 
 pub one : {s : List ℕ} {b b' b'' : Buffers} {r q : Built} → Builds s b r b' → Builds s b q b'' → (r ≡ q) × (b' ≡ b'')
-one {b' = b'} {b'' = b''} B C = (built-is B ∙ sym (built-is C), both b' b'' (B .outputs ∙ sym (C .outputs)) (B .scratch ∙ sym (C .scratch)))
-  where
-    both : (b d : Buffers) → b .outs ≡ d .outs → b .scratch ≡ d .scratch → b ≡ d
-    both b d e f = ap (λ (o : Outs). record { outs = o; scratch = b .scratch }) e ∙ ap (λ (c : Scratch). record { outs = d .outs; scratch = c }) f
+one {b' = b'} {b'' = b''} B C = (built-is B ∙ sym (built-is C), buffers-same b' b'' (B .outputs ∙ sym (C .outputs)) (B .scratch ∙ sym (C .scratch)))
 
 -- ---- a mesh
 

@@ -5,6 +5,7 @@ use mathlib.Core.List.{List}
 use mathlib.Core.Path.{_≡_, refl, _∙_}
 use native.Mathlib.Omega.{arith}
 use lib.Ieee.{Float, isNan}
+use Rattle.lists.proofs.Any.{part-place}
 use Rattle.boxes.specs.Box.{boxOf}
 use Rattle.boxes.proofs.Standing as boxes
 use Rattle.boxes.proofs.Standing.{Boxed, Touched}
@@ -18,7 +19,6 @@ use Rattle.promises.specs.declared.Built.the-variants.{Mesh}
 use Rattle.promises.specs.Calls.{Builds}
 use Rattle.promises.specs.Meshes.{TubeStands, verticesFor}
 use Rattle.promises.specs.Boxes.{residuesOf, firstVertex, VertexOf, coordinate, leastOf, greatestOf, Inside, Between, FirstOfEquals, Apart, Below}
-use Rattle.promises.proofs.Parts.{place}
 use Rattle.promises.proofs.Together as calls
 
 -- a tube's box is that of its positions
@@ -30,11 +30,11 @@ box-is P u = refl
 module _ (P : Protein) (u : Tube) (k v t : ℕ) (o : Outs) (S : TubeStands P u k v t o) where
   pub first-is : firstVertex o k ≡ v
   unfolding tubeWords
-  first-is = place (o .tubes) (tubeWords v t u) (5 * k) 5 3 0 (S .words .there) (omega arith)
+  first-is = part-place (o .tubes) (5 * k) 5 3 0 (S .words .there) (omega arith)
 
   pub residues-is : residuesOf o k ≡ sizeOf u
   unfolding tubeWords
-  residues-is = place (o .tubes) (tubeWords v t u) (5 * k) 5 2 0 (S .words .there) (omega arith)
+  residues-is = part-place (o .tubes) (5 * k) 5 2 0 (S .words .there) (omega arith)
 
   boxed-tube : Boxed (tubePositions P u) (o .positions) (o .boxes) (firstVertex o k) (verticesFor (residuesOf o k)) k
   boxed-tube = rw (first-is, residues-is) (record {

@@ -8,10 +8,11 @@ use borrow.Author.Tests.{ltb-true, ltb-false}
 use lib.Dec.{ltb}
 use lib.Ieee.{Float, nan, lt, isNan}
 use lib.ListN.{length, getD, take}
-use Rattle.boxes.specs.Box.{along, foremostOf, more, least, greatest, boxOf}
+use Rattle.boxes.specs.Box.{along, foremostOf, more, least, greatest}
 use Rattle.boxes.proofs.Boxes.{box-least, box-greatest, length-along, along-at}
 use Rattle.boxes.proofs.Foremost.{Order, lt-order, more-order, only}
 use Rattle.boxes.proofs.Standing.{Boxed, Touched}
+use Rattle.lists.proofs.Any.{part-place}
 use Rattle.edges.specs.Tube.{vertexCount}
 use Rattle.tubes.specs.Tubes.{Tube}
 use Rattle.mesh.specs.Mesh.{sizeOf, vertexSum}
@@ -22,7 +23,6 @@ use Rattle.promises.specs.Calls.{Builds}
 use Rattle.promises.specs.Meshes.{tubesIn, TubeAt, verticesFor}
 use Rattle.promises.specs.Boxes.{residuesOf, firstVertex, VertexOf, coordinate, leastOf, greatestOf, FirstOfEquals, Apart, Below}
 use Rattle.promises.proofs.Answers.{meshed}
-use Rattle.promises.proofs.Parts.{place}
 use Rattle.promises.proofs.Together as calls
 use Rattle.promises.proofs.Boxes as boxes
 
@@ -95,7 +95,7 @@ module _ {xs P Q : List Float} {v m k : ℕ} (T : Boxed xs P Q v m k) (a : ℕ) 
   along-is : (i : ℕ) → i < m → getD (along a xs) i nan ≡ getD P (3 * (v + i) + a) nan
   along-is i h =
       let e : 3 * v + (3 * i + a) ≡ 3 * (v + i) + a = omega arith in
-      along-at xs m (T .size) a i h ∙ sym (rw e at (place P xs (3 * v) (3 * m) (3 * i + a) nan (T .vertices) (omega arith)))
+      along-at xs m (T .size) a i h ∙ sym (rw e at (part-place P (3 * v) (3 * m) (3 * i + a) nan (T .vertices) (omega arith)))
 
   module _ (before : Float → Float → Bool) (o : Order before) (x : Float) where
     only-kept : isNan (getD P (3 * v + a) nan) ≡ false → isNan x ≡ false → Touched P v m a x
@@ -111,12 +111,12 @@ module _ {xs P Q : List Float} {v m k : ℕ} (T : Boxed xs P Q v m k) (a : ℕ) 
         (λ j r. let r' : j < m = rw l at r in rw (along-is j r') (h (v + j) (omega arith) (omega (arith, r'))))
 
   low-is : getD Q (6 * k + a) nan ≡ least (along a xs)
-  low-is = place Q (boxOf xs) (6 * k) 6 a nan (T .box) (omega arith) ∙ box-least xs a axis
+  low-is = part-place Q (6 * k) 6 a nan (T .box) (omega arith) ∙ box-least xs a axis
 
   high-is : getD Q (6 * k + 3 + a) nan ≡ greatest (along a xs)
   high-is =
       let e : 6 * k + (3 + a) ≡ 6 * k + 3 + a = omega arith in
-      rw e at (place Q (boxOf xs) (6 * k) 6 (3 + a) nan (T .box) (omega arith)) ∙ box-greatest xs a axis
+      rw e at (part-place Q (6 * k) 6 (3 + a) nan (T .box) (omega arith)) ∙ box-greatest xs a axis
 
 pub only-such : (s : List ℕ) (b b' : Buffers) (c : Counts) (k a : ℕ) (x : Float) → Builds s b (Mesh c) b' → k < c .tubes → a < 3
     → isNan (coordinate (b' .outs) (firstVertex (b' .outs) k) a) ≡ false → isNan x ≡ false → FirstOfEquals (b' .outs) k a x

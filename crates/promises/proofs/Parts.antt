@@ -5,8 +5,9 @@ use mathlib.Core.List.{List, [], _∷_, _++_, append-assoc}
 use mathlib.Core.Path.{_≡_, refl, sym, _∙_, ap, subst}
 use native.Mathlib.Nat.{zero-add, add-assoc, add-zero}
 use native.Mathlib.Omega.{arith}
-use lib.ListN.{length, getD, take, drop, length-drop}
-use lib.Seq.{take-at, drop-at, getD-take, getD-drop, length-take-le}
+use lib.ListN.{length, getD, take, drop, length-take, length-drop}
+use lib.Seq.{take-at, drop-at, length-take-le}
+use Rattle.lists.proofs.Any.{front-same, part-place}
 use Rattle.lists.proofs.Puts.{put-front}
 use Rattle.edges.specs.Sound.{Sound}
 use Rattle.edges.specs.Tube.{vertexCount, triangleCount}
@@ -41,17 +42,14 @@ holds P us b long t =
     }
 
 -- two buffers with one list at their fronts
-front : {A : Type 0} (xs l m : List A) (n : ℕ) {x y : List A} → x ≡ xs ++ drop n l → y ≡ xs ++ drop n m → length xs ≡ n → take n x ≡ take n y
-front xs l m n a b e = ap (take n) a ∙ take-at xs (drop n l) n e ∙ sym (ap (take n) b ∙ take-at xs (drop n m) n e)
-
 pub fronts : (P : Protein) (us : List Tube) (o o' p p' : Outs) → AllLong us → HoldsMesh P us o o' → HoldsMesh P us p p' → SameMesh (countsOf us) o' p'
 fronts P us o o' p p' long a b = record {
-  positions = front (meshPositions P us) (o .positions) (p .positions) _ (a .positions) (b .positions) (length-mesh-positions P us long);
-  normals = front (meshNormals P us) (o .normals) (p .normals) _ (a .normals) (b .normals) (length-mesh-normals P us long);
-  tags = front (meshTags us) (o .tags) (p .tags) _ (a .tags) (b .tags) (length-mesh-tags us long);
-  triangles = front (meshTriangles 0 us) (o .triangles) (p .triangles) _ (a .triangles) (b .triangles) (length-mesh-triangles 0 us);
-  tubes = front (meshWords 0 0 us) (o .tubes) (p .tubes) _ (a .tubes) (b .tubes) (length-mesh-words 0 0 us);
-  boxes = front (meshBoxes P us) (o .boxes) (p .boxes) _ (a .boxes) (b .boxes) (length-mesh-boxes P us);
+  positions = front-same (meshPositions P us) _ _ _ (a .positions) (b .positions) (length-mesh-positions P us long);
+  normals = front-same (meshNormals P us) _ _ _ (a .normals) (b .normals) (length-mesh-normals P us long);
+  tags = front-same (meshTags us) _ _ _ (a .tags) (b .tags) (length-mesh-tags us long);
+  triangles = front-same (meshTriangles 0 us) _ _ _ (a .triangles) (b .triangles) (length-mesh-triangles 0 us);
+  tubes = front-same (meshWords 0 0 us) _ _ _ (a .tubes) (b .tubes) (length-mesh-words 0 0 us);
+  boxes = front-same (meshBoxes P us) _ _ _ (a .boxes) (b .boxes) (length-mesh-boxes P us);
 }
 
 -- the triangles of the whole mesh, closed
@@ -161,27 +159,17 @@ stands P us o o' k u long H e =
     subst (λ (j : ℕ). TubeStands P u j (vertexSum (take k us)) (triangleSum (take k us)) o') n
     (between P (take k us) u (drop (suc k) us) o o' (subst AllLong q long) (subst (λ (l : List Tube). HoldsMesh P l o o') q H))
 
--- ---- a place of a part
-
-pub place : {A : Type 0} (l x : List A) (i n j : ℕ) (d : A) → take n (drop i l) ≡ x → j < n → getD l (i + j) d ≡ getD x j d
-place l x i n j d e h = sym (rw (← e, getD-take, getD-drop))
-
 -- a part that is not empty lies in its buffer
 within : (l x : List ℕ) (i n : ℕ) → Stands l i n x → 0 < n → i + n ≤ length l
-within l x i n S h = omega (arith, taken (drop i l) n, ap length (S .there), S .long, length-drop i l)
-  where
-    taken : (l : List ℕ) (n : ℕ) → length (take n l) ≤ length l
-    taken l zero = omega arith
-    taken [] (suc n) = omega arith
-    taken (x ∷ l) (suc n) = let r = taken l n in omega arith
+within l x i n S h = omega (arith, length-take n (drop i l), ap length (S .there), S .long, length-drop i l)
 
 -- ---- what the tube call hands out of the buffers of a mesh
 
 pub part-is : (P : Protein) (u : Tube) (k v t : ℕ) (o : Outs) → sizeOf u ≤ 16384 → TubeStands P u k v t o → tubePart (o .tubes) (o .triangles) k ≡ tubeTriangles v u
 unfolding tubeWords
 part-is P u k v t o most S =
-    let n : getD (o .tubes) (5 * k + 2) 0 ≡ sizeOf u = place (o .tubes) _ (5 * k) 5 2 0 (S .words .there) (omega arith) in
-    let f : getD (o .tubes) (5 * k + 4) 0 ≡ t = place (o .tubes) _ (5 * k) 5 4 0 (S .words .there) (omega arith) in
+    let n : getD (o .tubes) (5 * k + 2) 0 ≡ sizeOf u = part-place (o .tubes) (5 * k) 5 2 0 (S .words .there) (omega arith) in
+    let f : getD (o .tubes) (5 * k + 4) 0 ≡ t = part-place (o .tubes) (5 * k) 5 4 0 (S .words .there) (omega arith) in
     let two = S .two in
     let w = within (o .tubes) _ (5 * k) 5 (S .words) (omega arith) in
     let r = within (o .triangles) _ (3 * t) (3 * trianglesOf u) (S .triangles) (omega arith) in

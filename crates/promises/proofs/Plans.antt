@@ -52,7 +52,7 @@ plan-exit s k c r e = ⊎-elim passed (λ q. early (q .0) (q .1) (e ∙ plan-ref
         by-nine true f = nine p f (q ∙ rw f)
         by-nine false f = by-ten (tooMany (tubesIn s)) refl f
 
-same-refused : {q r : Refusal} → NoPlan q ≡ NoPlan r → q ≡ r
+pub same-refused : {q r : Refusal} → NoPlan q ≡ NoPlan r → q ≡ r
 same-refused e = cc
 
 same-plan : {c d : Counts} {f g : Five} → Plan c f ≡ Plan d g → (c ≡ d) × (f ≡ g)
