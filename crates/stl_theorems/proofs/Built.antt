@@ -1,13 +1,13 @@
 -- Every mesh that build hands out is consistent: from the theorems of promises alone. Assumes nothing.
 use Prim.Native.Nat.{ℕ, zero, suc, _+_, _*_, _<_, _≤_}
 use mathlib.Core.Bool.{true}
-use mathlib.Core.List.{List, [], _∷_, _++_, List·Memᴰ, List·Memᴰ·head, List·Memᴰ·tail}
+use mathlib.Core.List.{List, [], _∷_, List·Memᴰ, List·Memᴰ·head, List·Memᴰ·tail}
 use mathlib.Core.Path.{_≡_, sym, ap, _∙_}
 use native.Mathlib.Nat.{add-zero}
 use native.Mathlib.Numerals.{add-one}
 use native.Mathlib.Omega.{arith}
-use lib.ListN.{length, getD, take, drop, length-append}
-use lib.Seq.{getD-take, getD-drop}
+use lib.ListN.{length, getD, take}
+use Rattle.lists.proofs.Any.{front-long, part-place}
 use Rattle.edges.specs.Sound.{CornersIn}
 use Rattle.edges.specs.Tube.{vertices, triangles}
 use Rattle.edges.proofs.Theorems.{vertex-count, triangle-count}
@@ -68,9 +68,7 @@ module _ {s : List ℕ} {b b' : Buffers} {c : Counts} (B : Builds s b (Mesh c) b
     S = tube-stands B at
 
     word : (j : ℕ) → j < 5 → getD (o .tubes) (5 * k + j) 0 ≡ getD (tubeWords (before k) (triangles-before k) u) j 0
-    word j h =
-        sym (getD-drop (5 * k) (o .tubes) j 0) ∙ sym (getD-take 5 (drop (5 * k) (o .tubes)) j 0 h)
-        ∙ ap (λ (l : List ℕ). getD l j 0) (S .words .there)
+    word j h = part-place (o .tubes) (5 * k) 5 j 0 (S .words .there) h
 
     kind-is : kindAt (o .tubes) k ≡ u .kind
     unfolding tubeWords
@@ -115,10 +113,6 @@ module _ {s : List ℕ} {b b' : Buffers} {c : Counts} (B : Builds s b (Mesh c) b
   limit = omega (arith, accepted B .0 .limit, ap (λ (n : Counts). n .vertices) (accepted B .2))
 
   -- ---- room, in the buffers as build left them
-  -- a buffer that begins with a list of n places has n
-  long : {A : Type 0} (x r : List A) {l : List A} {n : ℕ} → l ≡ x ++ r → length x ≡ n → n ≤ length l
-  long x r e q = omega (arith, ap length e ∙ length-append x r)
-
   has-room : Room (c .tubes) (c .vertices) (c .triangles) o
   has-room =
       let H = mesh-holds B in
@@ -129,12 +123,12 @@ module _ {s : List ℕ} {b b' : Buffers} {c : Counts} (B : Builds s b (Mesh c) b
       let v : c .vertices ≡ vertexSum us = ap (λ (n : Counts). n .vertices) e in
       let t : c .triangles ≡ triangleSum us = ap (λ (n : Counts). n .triangles) e in
       record {
-        positions = rw v (long (meshPositions P us) _ (H .positions) (length-mesh-positions P us L));
-        normals = rw v (long (meshNormals P us) _ (H .normals) (length-mesh-normals P us L));
-        tags = rw v (long (meshTags us) _ (H .tags) (length-mesh-tags us L));
-        triangles = rw t (long (meshTriangles 0 us) _ (H .triangles) (length-mesh-triangles 0 us));
-        tubes = rw k (long (meshWords 0 0 us) _ (H .tubes) (length-mesh-words 0 0 us));
-        boxes = rw k (long (meshBoxes P us) _ (H .boxes) (length-mesh-boxes P us));
+        positions = rw v (front-long (meshPositions P us) _ (H .positions) (length-mesh-positions P us L));
+        normals = rw v (front-long (meshNormals P us) _ (H .normals) (length-mesh-normals P us L));
+        tags = rw v (front-long (meshTags us) _ (H .tags) (length-mesh-tags us L));
+        triangles = rw t (front-long (meshTriangles 0 us) _ (H .triangles) (length-mesh-triangles 0 us));
+        tubes = rw k (front-long (meshWords 0 0 us) _ (H .tubes) (length-mesh-words 0 0 us));
+        boxes = rw k (front-long (meshBoxes P us) _ (H .boxes) (length-mesh-boxes P us));
       }
 
   -- ---- each tube
