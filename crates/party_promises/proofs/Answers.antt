@@ -36,6 +36,7 @@ use Rattle.promises.proofs.Told.{planned-told}
 use Rattle.promises.proofs.Numbered.{UpTo, shared-numbered}
 use Rattle.promises.proofs.Numbered as numbered
 use Rattle.promises.proofs.Checks.{mesh-or-not, plan-or-not, same-refusal}
+use Rattle.promises.proofs.Plans.{same-refused}
 use Rattle.promises.proofs.Demands as base
 use Rattle.party_promises.specs.Calls.{shareChecks, sharedBy, shareScratch, recordsAnswer, BuildsShare, PlansRecords}
 use Rattle.party_promises.specs.Parties.{AllBytes, Shared, PassesShared, GoodShares, inShare, NoShorterShares, at, Called}
@@ -272,9 +273,6 @@ module _ {s q : List ℕ} {m k : Shares} {b b' : Buffers} {r : Built} (y : AllBy
 
 -- ---- the plan
 
-same-refused : (x y : Refusal) → NoPlan x ≡ NoPlan y → x ≡ y
-same-refused x y e = cc
-
 pub plan-numbers : {s q : List ℕ} {k : ℕ} {c c' : Scratch} {x : Refusal} → PlansRecords s q k c (NoPlan x) c' → (1 ≤ numberOf x) × (numberOf x ≤ 10)
 unfolding planChecks
 plan-numbers {s} {q} {k} {c} {x = x} P = go (checkShared s q) refl
@@ -285,10 +283,10 @@ plan-numbers {s} {q} {k} {c} {x = x} P = go (checkShared s q) refl
     go : (d : Checked) → checkShared s q ≡ d → UpTo 10 x
     go (Refused y) e =
         let n = shared-numbered s q y e in
-        numbered.told NoPlan same-refused 10 x y (n .0, omega (arith, n .1)) (sym (told ∙ plan-refused s q y e k (length (c .words)) (length (c .floats))))
+        numbered.told NoPlan (λ _ _. same-refused) 10 x y (n .0, omega (arith, n .1)) (sym (told ∙ plan-refused s q y e k (length (c .words)) (length (c .floats))))
     go (Fine h) e =
         let us = tubesWith s h q in
         let plan = Plan (countsOf us) (wordsAt 0 0 us k) in
-        numbered.passed NoPlan same-refused 10 x (shortScratch h (length (c .words)) (length (c .floats))) NoScratch (cond (tooMany us) (NoPlan TooManyVertices) plan) (omega arith, omega arith)
-        (λ f. numbered.passed NoPlan same-refused 10 x (tooMany us) TooManyVertices plan (omega arith, omega arith) (λ g. plan-or-not g) f)
+        numbered.passed NoPlan (λ _ _. same-refused) 10 x (shortScratch h (length (c .words)) (length (c .floats))) NoScratch (cond (tooMany us) (NoPlan TooManyVertices) plan) (omega arith, omega arith)
+        (λ f. numbered.passed NoPlan (λ _ _. same-refused) 10 x (tooMany us) TooManyVertices plan (omega arith, omega arith) (λ g. plan-or-not g) f)
         (sym (told ∙ records-passed s q h e k (length (c .words)) (length (c .floats))))
