@@ -6,6 +6,7 @@ use mathlib.Core.List.{List, [], _∷_, _++_}
 use mathlib.Core.Path.{_≡_, refl, sym, ap, _∙_, subst}
 use lib.ListN.{length, take, drop, getD}
 use native.Mathlib.Omega.{arith}
+use Rattle.lists.proofs.Any.{place-behind}
 use Rattle.job.specs.Check.{check}
 use Rattle.job.specs.Refusals.{numberOf}
 use Rattle.job.specs.declared.Checked.the-variants.{Fine}
@@ -24,7 +25,7 @@ use Rattle.pdb_reader.proofs.Passes.{structure-passes}
 use Rattle.pdb_reader.proofs.Says.{structure-says}
 use Rattle.pdb_reader.proofs.Lines.{atoms-proper, segments-kinded}
 use Rattle.pdb_reader.proofs.Reading.{read-told, cause-of, answer-of, cause-number, cause-written, cause-16}
-use Rattle.pdb_reader.proofs.Reading.{after-refusal, after-job, front, behind, place-behind, sited-at}
+use Rattle.pdb_reader.proofs.Reading.{after-refusal, after-job, front, behind, sited-at}
 use Rattle.pdb_reader.proofs.Reading.{cause-anywhere, size-fits, no-lines}
 
 -- ==== Every file and every lent buffer gets a job or one numbered refusal
@@ -84,7 +85,7 @@ module _ {s out out′ : List ℕ} where
 
   -- the same, place by place
   pub place-stays : {n k : ℕ} → Reads s out (Written n) out′ → n ≤ k → getD out′ k 0 ≡ getD out k 0
-  place-stays {n} {k} h = place-behind n k out′ out (past-job-stays h)
+  place-stays {n} {k} h = place-behind n k out′ out 0 (past-job-stays h)
 
   -- THE theorem: what the reader accepts, the builder never refuses before check 9
   pub accepted-passes : {n : ℕ} → Reads s out (Written n) out′ → check (pdbJob s) ≡ Fine (headFor (structureOf s))

@@ -1,12 +1,12 @@
 -- The lemmas of Demands: over the definitions of specs/Call, answer by answer. Assumes nothing.
-use Prim.Native.Nat.{ℕ, _+_, _-_, _<_, _≤_}
+use Prim.Native.Nat.{ℕ, _<_, _≤_}
 use mathlib.Core.Bool.{Bool, true, false, cond}
 use mathlib.Core.Path.{_≡_, refl, sym, ap, _∙_}
 use mathlib.Core.List.{List, [], _∷_, _++_, map}
 use native.Mathlib.Omega.{arith}
 use lib.Dec.{ltb}
 use lib.ListN.{length, take, drop, getD, length-map}
-use lib.Seq.{take-at, drop-at, getD-drop}
+use lib.Seq.{take-at, drop-at}
 use borrow.Author.Tests.{ltb-true, ltb-false, lt-ltb, le-ltb}
 use Rattle.lists.proofs.Puts.{put-front}
 use Rattle.job.specs.Refusals.{numberOf}
@@ -124,12 +124,6 @@ module _ (s out : List ℕ) (n : ℕ) (a : Accepted s (length out) n) where
 
   pub behind : drop n (pdbJob s ++ drop n out) ≡ drop n out
   behind = drop-at (pdbJob s) (drop n out) n (job-long s ∙ sym (a .file .size))
-
--- and so is each place
-pub place-behind : (n k : ℕ) (l m : List ℕ) → drop n l ≡ drop n m → n ≤ k → getD l k 0 ≡ getD m k 0
-place-behind n k l m e h =
-    let i : k ≡ n + (k - n) = omega (arith, h) in
-    rw i (sym (getD-drop n l (k - n) 0) ∙ ap (λ (x : List ℕ). getD x (k - n) 0) e ∙ getD-drop n m (k - n) 0)
 
 -- ---- what a job holds
 sited : {x : ℕ} → Placed x → NotMinusZero x → Sited x

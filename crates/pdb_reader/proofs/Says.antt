@@ -1,5 +1,5 @@
 -- A structure's job says what the structure says, whatever file that came from. Assumes nothing.
-use Prim.Native.Nat.{ℕ, zero, suc, _+_, _-_, _*_, _%_, _<_}
+use Prim.Native.Nat.{ℕ, suc, _+_, _-_, _*_, _%_, _<_}
 use mathlib.Core.Bool.{Bool, true, false, cond}
 use mathlib.Core.Path.{_≡_, refl, ap, _∙_}
 use mathlib.Core.List.{List, [], _∷_, map}
@@ -10,6 +10,7 @@ use lib.Ieee.{binary32, binary64, ofBits}
 use lib.ListN.{length, drop, length-map}
 use borrow.Author.Tests.{eq-eqb, lt-ltb}
 use Rattle.floats.specs.Floats.{narrowed}
+use Rattle.lists.proofs.Any.{drop-map}
 use Rattle.numbers.specs.Bytes.{u8At, u64At}
 use Rattle.numbers.proofs.Readback.{holds-moved}
 use Rattle.protein.specs.Job.{jobOf, segmentsOf}
@@ -31,13 +32,6 @@ use Rattle.pdb_reader.specs.Call.{pastLimits}
 use Rattle.pdb_reader.specs.Says.{headFor, narrow, SegmentSaid, AtomSaid, Says}
 use Rattle.pdb_reader.proofs.Answers.{limited}
 use Rattle.pdb_reader.proofs.Passes.{Proper, Every, every-at, atom-right}
-
--- ---- number k of a mapped list
-map-at : {A B : Type 0} (f : A → B) (l : List A) (k : ℕ) (x : A) (t : List A) → drop k l ≡ x ∷ t → drop k (map f l) ≡ f x ∷ map f t
-map-at f [] zero x t e = absurd (let z : _≡_ {A = ℕ} 0 1 = cc in omega arith)
-map-at f [] (suc k) x t e = absurd (let z : _≡_ {A = ℕ} 0 1 = cc in omega arith)
-map-at f (y ∷ l) zero x t e = ap (map f) e
-map-at f (y ∷ l) (suc k) x t e = map-at f l k x t e
 
 -- ---- a serial that is found is an atom's, and fits four bytes
 first-fits : (n : ℕ) (l : List AtomLine) → Every Proper l → serialIn (firstAtom n l) < 4294967296
@@ -117,9 +111,9 @@ structure-says x P e =
       segments = rw q (segments-said gs ∙ n);
       visible = visible-said (headFor x) gs ats;
       segment = λ k g t d.
-          rw q (segment-said gs k (toSegment (x .atoms) g) _ (map-at (toSegment (x .atoms)) (x .segments) k g t d) (first-fits (g .start) (x .atoms) P) (last-fits (g .end) (x .atoms) P));
+          rw q (segment-said gs k (toSegment (x .atoms) g) _ (drop-map (toSegment (x .atoms)) k (x .segments) ∙ ap (map (toSegment (x .atoms))) d) (first-fits (g .start) (x .atoms) P) (last-fits (g .end) (x .atoms) P));
       atom = λ k a t d.
-          let m = map-at (toAtom (x .atoms)) (x .atoms) k a t d in
+          let m = drop-map (toAtom (x .atoms)) k (x .atoms) ∙ ap (map (toAtom (x .atoms))) d in
           atom-said (headFor x) gs ats n (omega (arith, l .chains)) (omega (arith, l .residues)) k (toAtom (x .atoms) a) _ m
           (every-at Proper (x .atoms) k a t P d .serial) (atom-right (x .atoms) P k (toAtom (x .atoms) a) _ m);
     }
