@@ -25,6 +25,7 @@ use Rattle.stl_reader.specs.declared.Listed.the-variants.{Facets, NoFacets}
 use Rattle.stl_reader.specs.Call.{Lists, listedNumbers, ReadsStl}
 use Rattle.stl_reader.proofs.Demands.{list-determined, count-below, asked-below}
 use Rattle.room.specs.Room.{Scratch, Buffers}
+use Rattle.room.proofs.Laws.{buffers-same}
 use Rattle.promises.specs.declared.Built.the-variants.{Mesh, NoMesh}
 use Rattle.promises.specs.declared.Planned.the-variants.{Plan, NoPlan}
 use Rattle.promises.specs.Calls.{builtNumbers, Builds, Plans}
@@ -66,10 +67,7 @@ pub share-words-determined : {s q n : List ℕ} {b b' b'' : Buffers} {a d : List
 share-words-determined {b' = b'} {b'' = b''} A D =
     let outs = A .promise .outputs ∙ sym (D .promise .outputs) in
     let scratch = A .promise .scratch ∙ sym (D .promise .scratch) in
-    (A .words ∙ ap wordsOf (A .promise .answer ∙ sym (D .promise .answer)) ∙ sym (D .words), both b' b'' outs scratch)
-  where
-    both : (x y : Buffers) → x .outs ≡ y .outs → x .scratch ≡ y .scratch → x ≡ y
-    both x y e f = ap (λ (o : Outs). record { outs = o; scratch = x .scratch }) e ∙ ap (λ (c : Scratch). record { outs = y .outs; scratch = c }) f
+    (A .words ∙ ap wordsOf (A .promise .answer ∙ sym (D .promise .answer)) ∙ sym (D .words), buffers-same b' b'' outs scratch)
 
 pub records-words-determined : {s q : List ℕ} {k : ℕ} {c c' c'' : Scratch} {a d : List ℕ}
     → PlansRecordsWords s q k c a c' → PlansRecordsWords s q k c d c'' → (a ≡ d) × (c' ≡ c'')
