@@ -1,7 +1,7 @@
 -- What is proved of 01's list of tubes, `tubes J G far`: of any job J with any segments G, and any test `far` of the step between two atoms. Assumes nothing.
 use Prim.Native.Nat.{ℕ, _+_, _*_, _<_, _≤_}
 use mathlib.Core.Bool.{Bool, true, false, _&&_, and-false}
-use mathlib.Core.List.{List, [], List·Memᴰ}
+use mathlib.Core.List.{[], List·Memᴰ}
 use mathlib.Core.Path.{_≡_, refl}
 use native.Mathlib.Nat.{mul-le-mul}
 use native.Mathlib.Omega.{arith}
