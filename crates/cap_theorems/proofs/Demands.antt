@@ -28,20 +28,22 @@ use Rattle.promises.specs.Meshes.{proteinIn, tubesIn, TubeAt, verticesOf}
 use Rattle.party_promises.specs.Calls.{BuildsShare}
 use Rattle.party_promises.specs.Parties.{AllBytes, inShare}
 use Rattle.party_promises.proofs.Demands as party
-use Rattle.cap_theorems.specs.Caps.{capNormal, Lit, pointsIn, guidesIn, lastChord, lastTangent, rustNormals}
+use Rattle.cap_theorems.specs.Caps.{startCentre, endCentre, normalAt, Lit, pointsIn, guidesIn, lastChord, lastTangent, rustNormals}
 use Rattle.cap_theorems.proofs.Ends as ends
 
--- ==== 'No cap normal of zero': in every mesh that is handed out, the normal at each tube's end centre has three finite
--- components, of which one is not 0.
+-- ==== 'No cap normal of zero': in every mesh that is handed out, the normals at the centres of each tube's two caps have
+-- three finite components, of which one is not 0.
 
-pub cap-lit : {s : List ℕ} {b b' : Buffers} {c : Counts} {k : ℕ}
-    → Builds s b (Mesh c) b' → k < c .tubes → Lit (capNormal (b' .outs) k)
-cap-lit B h = ends.lit _ _ _ _ _ B h
+pub caps-lit : {s : List ℕ} {b b' : Buffers} {c : Counts} {k : ℕ} → Builds s b (Mesh c) b' → k < c .tubes
+    → Lit (normalAt (b' .outs) (startCentre (b' .outs) k)) × Lit (normalAt (b' .outs) (endCentre (b' .outs) k))
+caps-lit B h = ends.lit _ _ _ _ _ B h
 
 -- so in a party's share
-pub share-cap-lit : {s q : List ℕ} {m o : Shares} {b b' : Buffers} {c : Counts} {k : ℕ} → AllBytes s
-    → BuildsShare s q m o b (Mesh c) b' → k < c .tubes → Lit (capNormal (inShare m b' .outs) k)
-share-cap-lit y B h = cap-lit (party.mesh-as-job y B) h
+pub share-caps-lit : {s q : List ℕ} {m o : Shares} {b b' : Buffers} {c : Counts} {k : ℕ} → AllBytes s
+    → BuildsShare s q m o b (Mesh c) b' → k < c .tubes
+    → Lit (normalAt (inShare m b' .outs) (startCentre (inShare m b' .outs) k))
+    × Lit (normalAt (inShare m b' .outs) (endCentre (inShare m b' .outs) k))
+share-caps-lit y B h = caps-lit (party.mesh-as-job y B) h
 
 -- ==== 'Normalising a vector of length 0 must say that there is no direction', and that of no other vector does: the
 -- length as it is computed
@@ -61,7 +63,7 @@ coincide k B at e = ends.same-points _ _ _ _ k B _ at e
 
 pub cap-tangent : {s : List ℕ} {b b' : Buffers} {c : Counts} (k : ℕ) {u : Tube}
     → Builds s b (Mesh c) b' → TubeAt (tubesIn s) k u → directionOf (lastChord (proteinIn s) u) ≡ Nowhere
-    → capNormal (b' .outs) k ≡ lastTangent (proteinIn s) u
+    → normalAt (b' .outs) (endCentre (b' .outs) k) ≡ lastTangent (proteinIn s) u
 cap-tangent k B at e = ends.tangent _ _ _ _ k B _ at e
 
 -- 01: 'the last uses span n-2 with t = 1'
@@ -74,7 +76,7 @@ last-sample P u = caps.last-tangent (pointsIn P u) (guidesIn P u) (sizeOf u)
 
 pub cap-chord : {s : List ℕ} {b b' : Buffers} {c : Counts} (k : ℕ) {u : Tube} {v : Vec3}
     → Builds s b (Mesh c) b' → TubeAt (tubesIn s) k u → directionOf (lastChord (proteinIn s) u) ≡ Along v
-    → (capNormal (b' .outs) k ≡ v) × (normalised (lastChord (proteinIn s) u) ≡ v)
+    → (normalAt (b' .outs) (endCentre (b' .outs) k) ≡ v) × (normalised (lastChord (proteinIn s) u) ≡ v)
 cap-chord k B at e = ends.chord-taken _ _ _ _ k B _ at _ e
 
 pub all-the-rusts : (P : Protein) (u : Tube) (v : Vec3)

@@ -4,19 +4,21 @@ use mathlib.Core.Bool.{true, false}
 use mathlib.Core.List.{List, _++_}
 use mathlib.Core.Path.{_≡_, refl, sym, _∙_, ap, subst}
 use native.Mathlib.Omega.{arith}
-use native.Mathlib.Nat.{add-zero}
-use lib.ListN.{length, getD, take, drop, length-append}
-use lib.Seq.{take-at, take-take, getD-append-add, getD-take, getD-drop}
+use lib.ListN.{length, take, drop, length-append}
+use lib.Seq.{take-at, take-take}
 use lib.Ieee.{Float, nan, inf, fin}
 use Rattle.vectors.specs.declared.Vec3.{Vec3}
 use Rattle.vectors.specs.declared.Direction.the-variants.{Along, Nowhere}
 use Rattle.vectors.specs.Vec.{vecAt, floats, directionOf, normalised}
+use Rattle.vectors.proofs.Flat.{vec-front, vec-last, vec-part}
 use Rattle.lists.specs.Put.{upto}
+use Rattle.sizes.proofs.Lengths.{shines-lit}
 use Rattle.sizes.proofs.Most.{Real}
 use Rattle.edges.specs.Tube.{vertexCount}
 use Rattle.edges.proofs.Theorems.{vertex-count}
 use Rattle.caps.specs.Caps.{endNormal}
 use Rattle.caps.proofs.Laws.{chord-kept, tangent-taken}
+use Rattle.skin.proofs.Laws as skin
 use Rattle.skin.specs.Tube.{ordered, ringNormals, startNormal, skinNormals, normalsOf}
 use Rattle.protein.specs.Layout.{headOf, recordsOf}
 use Rattle.protein.specs.Protein.{Protein}
@@ -34,9 +36,9 @@ use Rattle.promises.proofs.Tubes.{length-alphas, length-normals}
 use Rattle.promises.proofs.Boxes.{first-is, residues-is}
 use Rattle.promises.proofs.Together as calls
 use Rattle.promises.proofs.Demands as demands
-use Rattle.cap_theorems.specs.Caps.{endCentre, capNormal, isFinite, Lit, pointsIn, guidesIn, lastChord, lastTangent, normalsTo, rustNormals}
+use Rattle.cap_theorems.specs.Caps.{startCentre, endCentre, isFinite, Lit, pointsIn, guidesIn, lastChord, lastTangent, normalsTo, rustNormals}
 use Rattle.cap_theorems.proofs.Within.{Normal}
-use Rattle.cap_theorems.proofs.Jobs.{cap-normal, coincide}
+use Rattle.cap_theorems.proofs.Jobs.{start-normal, end-normal, coincide}
 
 -- ---- a normal is lit
 
@@ -46,11 +48,14 @@ finite k (inf s) h = absurd h
 finite k (fin s m e) h = refl
 
 normal-lit : (v : Vec3) → Normal v → Lit v
-normal-lit v (r, s) = record { finite-x = finite 127 (v .x) (r .0); finite-y = finite 127 (v .y) (r .1); finite-z = finite 127 (v .z) (r .2); not-zero = s }
+normal-lit v (r, s) = record { finite-x = finite 127 (v .x) (r .0); finite-y = finite 127 (v .y) (r .1); finite-z = finite 127 (v .z) (r .2); not-zero = shines-lit v s }
 
 -- ---- the list of a tube's normals
 
--- the end cap's, by 01 and 02 §6
+-- the start cap's, and the end cap's, by 01 and 02 §6
+abbrev startOf : Protein → Tube → Vec3
+startOf P u = startNormal (pointsIn P u) (guidesIn P u) (sizeOf u)
+
 abbrev pub capOf : Protein → Tube → Vec3
 capOf P u = endNormal (pointsIn P u) (guidesIn P u) (sizeOf u)
 
@@ -87,25 +92,22 @@ fronts P u e d two = front e ∙ sym (front d)
 pub as-rust : (P : Protein) (u : Tube) (v : Vec3) → directionOf (lastChord P u) ≡ Along v → tubeNormals P u ≡ rustNormals P u
 as-rust P u v e = let r = chord-kept (pointsIn P u) (guidesIn P u) (sizeOf u) v e in normals-are P u ∙ ap (normalsTo P u) (r .0 ∙ sym (r .1))
 
--- the vector at the end of a list, and of a part of one
-vec-last : (l : List Float) (v : Vec3) (i : ℕ) → length l ≡ 3 * i → vecAt (l ++ floats v) i ≡ v
-unfolding vecAt
-vec-last l v i e =
-    let at : (j k : ℕ) → 3 * i + j ≡ k → getD (l ++ floats v) k nan ≡ getD (floats v) j nan =
-    λ j k q. ap (λ (m : ℕ). getD (l ++ floats v) m nan) (omega (arith, q, e)) ∙ getD-append-add l (floats v) j nan in
-    rw (at 0 (3 * i) (add-zero (3 * i)), at 1 (3 * i + 1) refl, at 2 (3 * i + 2) refl)
-
-vec-part : (l x : List Float) (i n j : ℕ) → take (3 * n) (drop (3 * i) l) ≡ x → j < n → vecAt l (i + j) ≡ vecAt x j
-unfolding vecAt
-vec-part l x i n j e h =
-    let at : (a b : ℕ) → a < 3 * n → 3 * i + a ≡ b → getD l b nan ≡ getD x a nan =
-    λ a b q r. ap (λ (m : ℕ). getD l m nan) (sym r) ∙ sym (rw (← e, getD-take, getD-drop)) in
-    rw (at (3 * j) (3 * (i + j)) (omega arith) (omega arith), at (3 * j + 1) (3 * (i + j) + 1) (omega arith) (omega arith), at (3 * j + 2) (3 * (i + j) + 2) (omega arith) (omega arith))
+-- the start cap's stands behind the eight of the first ring
+start-in : (P : Protein) (u : Tube) (e : Vec3) → vecAt (normalsTo P u e) 8 ≡ startOf P u
+unfolding normalsTo ordered
+start-in P u e =
+    let n = sizeOf u in
+    let r = ringNormals (kindOf (u .kind)) (pointsIn P u) (guidesIn P u) n 0 in
+    let long : length (r ++ floats (startOf P u)) ≡ 27 = omega (arith, length-append r (floats (startOf P u)), skin.length-normals (kindOf (u .kind)) (pointsIn P u) (guidesIn P u) n 0) in
+    let l : ℕ → List Float = λ s. ringNormals (kindOf (u .kind)) (pointsIn P u) (guidesIn P u) n (s + 1) in
+    vec-front ((r ++ floats (startOf P u)) ++ upto l (8 * (n - 1))) (floats e) 8 (omega (arith, long, length-append (r ++ floats (startOf P u)) (upto l (8 * (n - 1)))))
+    ∙ vec-front (r ++ floats (startOf P u)) (upto l (8 * (n - 1))) 8 (omega (arith, long))
+    ∙ vec-last r (startOf P u) 8 (skin.length-normals (kindOf (u .kind)) (pointsIn P u) (guidesIn P u) n 0)
 
 -- ---- in the buffers
 
 module _ (P : Protein) (u : Tube) (k v t : ℕ) (o : Outs) (S : TubeStands P u k v t o) where
-  pub cap-is : capNormal o k ≡ capOf P u
+  pub cap-is : vecAt (o .normals) (endCentre o k) ≡ capOf P u
   cap-is =
       let two = S .two in
       let at : endCentre o k ≡ v + (verticesOf u - 1) = omega (arith, first-is P u k v t o S, residues-is P u k v t o S) in
@@ -114,17 +116,25 @@ module _ (P : Protein) (u : Tube) (k v t : ℕ) (o : Outs) (S : TubeStands P u k
       ∙ ap (λ (l : List Float). vecAt l (verticesOf u - 1)) (normals-are P u ∙ front-then P u (capOf P u))
       ∙ vec-last (frontOf P u) (capOf P u) (verticesOf u - 1) (front-long P u two)
 
+  pub start-is : vecAt (o .normals) (startCentre o k) ≡ startOf P u
+  start-is =
+      let two = S .two in
+      let at : startCentre o k ≡ v + 8 = omega (arith, first-is P u k v t o S) in
+      ap (vecAt (o .normals)) at
+      ∙ vec-part (o .normals) (tubeNormals P u) v (verticesOf u) 8 (S .normals .there) (omega arith)
+      ∙ ap (λ (l : List Float). vecAt l 8) (normals-are P u) ∙ start-in P u (capOf P u)
+
 module _ (s : List ℕ) (b b' : Buffers) (c : Counts) (k : ℕ) (B : Builds s b (Mesh c) b') where
   module _ (u : Tube) (at : TubeAt (tubesIn s) k u) where
     stands : TubeStands (proteinIn s) u k (vertexSum (take k (tubesIn s))) (triangleSum (take k (tubesIn s))) (b' .outs)
     stands = calls.stands s b b' c k u B at
 
-    pub chord-taken : (v : Vec3) → directionOf (lastChord (proteinIn s) u) ≡ Along v → (capNormal (b' .outs) k ≡ v) × (normalised (lastChord (proteinIn s) u) ≡ v)
+    pub chord-taken : (v : Vec3) → directionOf (lastChord (proteinIn s) u) ≡ Along v → (vecAt (b' .outs .normals) (endCentre (b' .outs) k) ≡ v) × (normalised (lastChord (proteinIn s) u) ≡ v)
     chord-taken v e =
         let r = chord-kept (pointsIn (proteinIn s) u) (guidesIn (proteinIn s) u) (sizeOf u) v e in
         (cap-is (proteinIn s) u k _ _ (b' .outs) stands ∙ r .0, r .1)
 
-    pub tangent : directionOf (lastChord (proteinIn s) u) ≡ Nowhere → capNormal (b' .outs) k ≡ lastTangent (proteinIn s) u
+    pub tangent : directionOf (lastChord (proteinIn s) u) ≡ Nowhere → vecAt (b' .outs .normals) (endCentre (b' .outs) k) ≡ lastTangent (proteinIn s) u
     tangent e = cap-is (proteinIn s) u k _ _ (b' .outs) stands ∙ tangent-taken (pointsIn (proteinIn s) u) (guidesIn (proteinIn s) u) (sizeOf u) e
 
     pub others : (length (rustNormals (proteinIn s) u) ≡ 3 * verticesOf u)
@@ -141,9 +151,12 @@ module _ (s : List ℕ) (b b' : Buffers) (c : Counts) (k : ℕ) (B : Builds s b 
     pub same-points : vecAt (pointsIn (proteinIn s) u) (sizeOf u - 1) ≡ vecAt (pointsIn (proteinIn s) u) (sizeOf u - 2) → directionOf (lastChord (proteinIn s) u) ≡ Nowhere
     same-points e = coincide s (headOf s) (recordsOf s (headOf s)) (accepted s (headOf s) (demands.accepted B .0 .passes)) u (stands .two) e
 
-  pub lit : k < c .tubes → Lit (capNormal (b' .outs) k)
+  pub lit : k < c .tubes → Lit (vecAt (b' .outs .normals) (startCentre (b' .outs) k)) × Lit (vecAt (b' .outs .normals) (endCentre (b' .outs) k))
   lit h =
       let t = calls.there s b b' c B k h in
       let S = stands (t .0) (t .1) in
       let A = accepted s (headOf s) (demands.accepted B .0 .passes) in
-      subst Lit (sym (cap-is (proteinIn s) (t .0) k _ _ (b' .outs) S)) (normal-lit _ (cap-normal s (headOf s) (recordsOf s (headOf s)) A (t .0) (S .two)))
+      let q = recordsOf s (headOf s) in (
+        subst Lit (sym (start-is (proteinIn s) (t .0) k _ _ (b' .outs) S)) (normal-lit _ (start-normal s (headOf s) q A (t .0) (S .two))),
+        subst Lit (sym (cap-is (proteinIn s) (t .0) k _ _ (b' .outs) S)) (normal-lit _ (end-normal s (headOf s) q A (t .0) (S .two))),
+      )

@@ -1,4 +1,4 @@
--- Of an accepted job: check 8 keeps every coordinate within 16384, so each C-alpha of a tube is at most 2 ^ 14 in size, and every tube's end cap is lit. Assumes nothing.
+-- Of an accepted job: check 8 keeps every coordinate within 16384, so each C-alpha of a tube is at most 2 ^ 14 in size, and the caps of every tube have normals that are finite and not dark. Assumes nothing.
 use Prim.Native.Nat.{ℕ, zero, suc, _-_, _*_, _^_, _≤_, _<_}
 use mathlib.Core.Bool.{Bool, true, false, not, _||_, false≢true}
 use mathlib.Core.List.{List, [], _∷_, map}
@@ -35,9 +35,10 @@ use Rattle.tubes.specs.declared.Source.the-variants.{Coils, Segment}
 use Rattle.tubes.specs.Tubes.{Tube, coilAlpha, segmentAlpha, alphaOf}
 use Rattle.mesh.specs.Mesh.{sizeOf, kindOf, alphasOf, spotOf, spots}
 use Rattle.caps.specs.Caps.{chord, endNormal}
+use Rattle.skin.specs.Tube.{startNormal}
 use Rattle.promises.proofs.Tubes.{length-alphas}
 use Rattle.cap_theorems.specs.Caps.{pointsIn, guidesIn, lastChord}
-use Rattle.cap_theorems.proofs.Within.{Within, Normal, points-within, tube-cap}
+use Rattle.cap_theorems.proofs.Within.{Within, Normal, points-within, start-cap, end-cap}
 
 -- ---- a coordinate that passes check 8
 
@@ -110,7 +111,11 @@ module _ (s : List ℕ) (h : Head) (q : List ℕ) (A : Accepted s h q) (u : Tube
       let p = pointsIn (proteinOf s h) u in
       ap (λ (v : Vec3). directionOf (vsub v (vecAt p (sizeOf u - 2)))) e ∙ self-nowhere 39 (vecAt p (sizeOf u - 2)) (points-real two (sizeOf u - 2) (omega arith))
 
-  -- ---- THE cap of a tube
-  pub cap-normal : 2 ≤ sizeOf u → Normal (endNormal (pointsIn (proteinOf s h) u) (guidesIn (proteinOf s h) u) (sizeOf u))
+  -- ---- THE caps of a tube
+  pub start-normal : 2 ≤ sizeOf u → Normal (startNormal (pointsIn (proteinOf s h) u) (guidesIn (proteinOf s h) u) (sizeOf u))
   unfolding pointsIn
-  cap-normal two = tube-cap (kindOf (u .kind)) _ (guidesIn (proteinOf s h) u) (sizeOf u) two spots-within
+  start-normal two = start-cap (kindOf (u .kind)) _ (guidesIn (proteinOf s h) u) (sizeOf u) two spots-within
+
+  pub end-normal : 2 ≤ sizeOf u → Normal (endNormal (pointsIn (proteinOf s h) u) (guidesIn (proteinOf s h) u) (sizeOf u))
+  unfolding pointsIn
+  end-normal two = end-cap (kindOf (u .kind)) _ (guidesIn (proteinOf s h) u) (sizeOf u) two spots-within

@@ -1,4 +1,5 @@
--- An end cap's normal is lit where the C-alphas are finite and at most 2 ^ 30 in size, far above check 8's 16384: the sizes of what it is computed from. Assumes nothing.
+-- A cap's normal is finite and not dark where the C-alphas are finite and at most 2 ^ 30 in size, far above check 8's 16384: the sizes of what it is computed from.
+-- Assumes nothing.
 use mathlib.Core.Path.{_≡_, refl, sym, ap, _∙_, subst}
 use mathlib.Core.Logic.{inl, inr}
 use mathlib.Core.Bool.{Bool, true, false, cond, _||_, Bool·beq, true≢false, false≢true}
@@ -6,9 +7,9 @@ use mathlib.Core.List.{List}
 use Prim.Native.Nat.{ℕ, zero, suc, _+_, _-_, _*_, _^_, _≤_, _<_}
 use native.Mathlib.Omega.{arith}
 use borrow.Author.Tests.{lt-ltb, eq-eqb, eqb-false}
-use lib.IntN.{negsuc}
+use lib.IntN.{pos, negsuc}
 use lib.Dec.{T, ltb, eqb, eqb→eq, lit≤}
-use lib.Ieee.{Float, nan, inf, fin, binary32, up, down, eq, lt, neg, ofBits}
+use lib.Ieee.{Float, nan, inf, fin, binary32, up, down, eq, lt, neg, ofBits, ofInt, div}
 use lib.Ieee.Fits.{and-l, down-pos}
 use Rattle.vectors.specs.declared.Vec3.{Vec3}
 use Rattle.vectors.specs.declared.Direction.{Direction}
@@ -16,7 +17,7 @@ use Rattle.vectors.specs.declared.Direction.the-variants.{Along, Nowhere}
 use Rattle.vectors.specs.Vec.{vadd, vsub, vscale, vlength, vzero, vecAt, lit, one, f/, f*, directionOf, normalised}
 use Rattle.vectors.proofs.Directions.{along}
 use Rattle.sizes.proofs.Least.{zeroF, zero-is}
-use Rattle.sizes.proofs.Lengths.{Shines, scaled-shines}
+use Rattle.sizes.proofs.Lengths.{Shines, scaled-shines, turned-shines}
 use Rattle.sizes.proofs.Most.{Real, Real3, vmore, mul-real, neg-real, vadd-real, vsub-real, vscale-real, length-finite, scaled-real}
 use Rattle.shape.specs.declared.Kind.{Kind}
 use Rattle.shape.specs.declared.Kind.the-variants.{Coil, Helix, Sheet}
@@ -25,8 +26,9 @@ use Rattle.shape.specs.Guide.{yaxis, tiny, directed, weighted, smoothPosition}
 use Rattle.smooth.specs.Pass.{atEnd, positionPass, repeated, smoothPositions}
 use Rattle.smooth.proofs.Laws.{position-at}
 use Rattle.curve.specs.Residues.{pointsOf}
-use Rattle.curve.specs.Samples.{beforeOf, afterOf, spanOf, frameAt}
+use Rattle.curve.specs.Samples.{beforeOf, afterOf, spanOf, spanAt, paramAt, frameOf, frameAt}
 use Rattle.caps.specs.Caps.{chord, endNormal}
+use Rattle.skin.specs.Tube.{startNormal}
 use Rattle.caps.proofs.Laws.{chord-kept, tangent-taken, last-tangent}
 
 -- ---- a vector over its length
@@ -63,7 +65,7 @@ zero-below (fin s m d) e = go s (eqb→eq (m * up d * 1) (0 * 1 * down d) (and-l
 -- so what a tangent is taken from has a length that is not 0, or is too short, and then it is (0, 1, 0)
 yaxis-normal : Normal yaxis
 unfolding ofBits eq
-yaxis-normal = ((lit≤ tt, lit≤ tt, lit≤ tt), inr (inl refl))
+yaxis-normal = ((lit≤ tt, lit≤ tt, lit≤ tt), inr (inl (lit≤ tt)))
 
 directed-normal : (v : Vec3) → Real3 52 v → Normal (directed v)
 unfolding directed normalised
@@ -136,6 +138,16 @@ module _ (a b c d : Vec3) (p : Real3 41 a) (q : Real3 41 b) (r : Real3 41 c) (s 
       (vscale-real 47 1 (bend a b c d) (f* two t) (lit≤ tt) bend-real (mul-real binary32 1 0 two t (lit≤ tt) two-real h)))
       (vmore 48 49 z (lit≤ tt) (vscale-real 46 2 (twist a b c d) (f* three (f* t t)) (lit≤ tt) twist-real (mul-real binary32 2 0 three (f* t t) (lit≤ tt) three-real (mul-real binary32 0 0 t t (lit≤ tt) h h))))
 
+zero-real : Real 0 (f/ (ofInt binary32 (pos 0)) (lit 0x41000000))
+unfolding ofBits ofInt div
+zero-real = lit≤ tt
+
+-- the first sample's tangent: that of span 0 where t is 0 / 8
+first-tangent : (p g : List Float) (n : ℕ) → 2 ≤ n → frameAt p g n 0 .tangent ≡ directed (of4 catmullRomTangent (spanOf p n 0) (f/ (ofInt binary32 (pos 0)) (lit 0x41000000)))
+unfolding frameAt frameOf spanAt paramAt
+first-tangent p g n N =
+    ap (λ (b : Bool). directed (of4 catmullRomTangent (spanOf p n (cond b 0 (n - 2))) (cond b (f/ (ofInt binary32 (pos 0)) (lit 0x41000000)) one))) (lt-ltb 1 n N)
+
 -- ---- n vectors of a flat list, each at most 2 ^ k
 
 abbrev pub Within : ℕ → List Float → ℕ → Type 0
@@ -150,27 +162,41 @@ beyond : (v w : Vec3) → Real3 39 v → Real3 39 w → Real3 41 (vadd v (vsub v
 beyond v w p q = vadd-real 40 v (vsub v w) (lit≤ tt) (vmore 39 40 v (lit≤ tt) p) (vsub-real 39 v w (lit≤ tt) p q)
 
 module _ (p : List Float) (n : ℕ) (N : 2 ≤ n) (h : Within 39 p n) where
-  slope-at : Real3 50 (of4 catmullRomTangent (spanOf p n (n - 2)) one)
+  -- the derivative at parameter t of span i
+  slope-at : (i : ℕ) (t : Float) → i + 1 < n → Real 0 t → Real3 50 (of4 catmullRomTangent (spanOf p n i) t)
   unfolding spanOf
-  slope-at =
-      let i = n - 2 in
+  slope-at i t l T0 =
       let a = vecAt p i in
       let b = vecAt p (i + 1) in
       let A : Real3 39 a = h i (omega arith) in
-      let B : Real3 39 b = h (i + 1) (omega arith) in
+      let B : Real3 39 b = h (i + 1) l in
       slope-real (beforeOf p i a b) a b (afterOf p n i a b)
       (either 41 (eqb i 0) (vadd a (vsub a b)) (vecAt p (i - 1)) (beyond a b A B) (vmore 39 41 (vecAt p (i - 1)) (lit≤ tt) (h (i - 1) (omega arith))))
       (vmore 39 41 a (lit≤ tt) A) (vmore 39 41 b (lit≤ tt) B)
-      (rw (eq-eqb (i + 2) n (omega arith)) (beyond b a B A))
-      one one-real
+      (after (eqb (i + 2) n) refl (beyond b a B A))
+      t T0
+    where
+      after : (e : Bool) → eqb (i + 2) n ≡ e → Real3 41 (vadd (vecAt p (i + 1)) (vsub (vecAt p (i + 1)) (vecAt p i)))
+          → Real3 41 (cond e (vadd (vecAt p (i + 1)) (vsub (vecAt p (i + 1)) (vecAt p i))) (vecAt p (i + 2)))
+      after true e r = r
+      after false e r = vmore 39 41 (vecAt p (i + 2)) (lit≤ tt) (h (i + 2) (omega (arith, eqb-false (i + 2) n e)))
 
   chord-real : Real3 40 (chord p n)
   unfolding chord
   chord-real = vsub-real 39 (vecAt p (n - 1)) (vecAt p (n - 2)) (lit≤ tt) (h (n - 1) (omega arith)) (h (n - 2) (omega arith))
 
-  -- ---- THE cap, over spline points
-  cap-within : (g : List Float) → Normal (endNormal p g n)
-  cap-within g = go (directionOf (chord p n)) refl
+  -- ---- THE start cap, over spline points
+  start-within : (g : List Float) → Normal (startNormal p g n)
+  unfolding startNormal
+  start-within g =
+      let s = of4 catmullRomTangent (spanOf p n 0) (f/ (ofInt binary32 (pos 0)) (lit 0x41000000)) in
+      let d = directed-normal s (vmore 50 52 s (lit≤ tt) (slope-at 0 _ (omega arith) zero-real)) in
+      subst (λ (v : Vec3). Normal (vscale v (neg one))) (sym (first-tangent p g n N))
+      (vscale-real 127 0 (directed s) (neg one) (lit≤ tt) (d .0) (neg-real 0 one one-real), turned-shines (directed s) (d .1))
+
+  -- ---- THE end cap
+  end-within : (g : List Float) → Normal (endNormal p g n)
+  end-within g = go (directionOf (chord p n)) refl
     where
       go : (d : Direction) → directionOf (chord p n) ≡ d → Normal (endNormal p g n)
       go (Along v) e =
@@ -178,7 +204,7 @@ module _ (p : List Float) (n : ℕ) (N : 2 ≤ n) (h : Within 39 p n) where
           subst Normal (sym (chord-kept p g n v e .0 ∙ k .1)) (scaled (chord p n) (vmore 40 52 (chord p n) (lit≤ tt) chord-real) (k .0))
       go Nowhere e =
           let s = of4 catmullRomTangent (spanOf p n (n - 2)) one in
-          subst Normal (sym (tangent-taken p g n e ∙ last-tangent p g n)) (directed-normal s (vmore 50 52 s (lit≤ tt) slope-at))
+          subst Normal (sym (tangent-taken p g n e ∙ last-tangent p g n)) (directed-normal s (vmore 50 52 s (lit≤ tt) (slope-at (n - 2) one (omega arith) one-real)))
 
 -- ---- smoothing: one pass adds three powers at most
 
@@ -213,6 +239,9 @@ points-within Coil ca n h i l = vmore 30 39 (vecAt ca i) (lit≤ tt) (h i l)
 points-within Helix ca n h i l = vmore 30 39 (vecAt ca i) (lit≤ tt) (h i l)
 points-within Sheet ca n h i l = pass-within 36 n _ (lit≤ tt) (pass-within 33 n _ (lit≤ tt) (pass-within 30 n ca (lit≤ tt) h)) i l
 
--- ---- THE cap, over C-alphas: whatever guides there are
-pub tube-cap : (kind : Kind) (ca g : List Float) (n : ℕ) → 2 ≤ n → Within 30 ca n → Normal (endNormal (pointsOf kind ca n) g n)
-tube-cap kind ca g n N h = cap-within (pointsOf kind ca n) n N (points-within kind ca n h) g
+-- ---- THE caps, over C-alphas: whatever guides there are
+pub start-cap : (kind : Kind) (ca g : List Float) (n : ℕ) → 2 ≤ n → Within 30 ca n → Normal (startNormal (pointsOf kind ca n) g n)
+start-cap kind ca g n N h = start-within (pointsOf kind ca n) n N (points-within kind ca n h) g
+
+pub end-cap : (kind : Kind) (ca g : List Float) (n : ℕ) → 2 ≤ n → Within 30 ca n → Normal (endNormal (pointsOf kind ca n) g n)
+end-cap kind ca g n N h = end-within (pointsOf kind ca n) n N (points-within kind ca n h) g

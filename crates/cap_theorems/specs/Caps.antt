@@ -20,13 +20,17 @@ use Rattle.promises.specs.Boxes.{residuesOf, firstVertex}
 
 -- ---- in the buffers
 
--- 01: 'Vertices: ring, start centre, later rings, end centre': the last of the 64n-54 vertices of tube k, by its record, is its end cap's centre,
+-- 01: 'Vertices: ring, start centre, later rings, end centre': of the 64n-54 vertices of tube k, by its record, the start cap's centre is the one after the eight
+-- of the first ring, and the end cap's the last
+abbrev pub startCentre : Outs → ℕ → ℕ
+startCentre o k = firstVertex o k + 8
+
 abbrev pub endCentre : Outs → ℕ → ℕ
 endCentre o k = firstVertex o k + (verticesFor (residuesOf o k) - 1)
 
--- whose normal is
-abbrev pub capNormal : Outs → ℕ → Vec3
-capNormal o k = vecAt (o .normals) (endCentre o k)
+-- the normal of vertex j
+abbrev pub normalAt : Outs → ℕ → Vec3
+normalAt o j = vecAt (o .normals) j
 
 -- neither a NaN nor an infinity
 abbrev pub isFinite : Float → Bool

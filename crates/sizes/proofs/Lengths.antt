@@ -1,7 +1,7 @@
 -- 02 §6: a direction is never a zero vector. A vector that has one, and whose computed length is not infinite, is scaled to a vector with a component that is not 0, of
 -- either sign. Nothing is asked of its components: they may be subnormal, huge or NaN. Assumes nothing.
 use mathlib.Core.Path.{_≡_, refl, sym, ap, _∙_, subst}
-use mathlib.Core.Logic.{_⊎_, inl, inr}
+use mathlib.Core.Logic.{_⊎_, inl, inr, ⊎-elim}
 use Prim.Native.Nat.{ℕ, zero, suc, _+_, _-_, _*_, _%_, _^_, _≤_, _<_, zero-le}
 use native.Mathlib.Nat.{le-trans, le-of-eq, le-of-lt, le-of-suc-le-suc, lt-of-lt-of-le, lt-of-le-of-lt, lt-of-not-le, not-le-of-lt, zero-lt-suc, eq-zero-or-pos, zero-mul, one-mul, mul-one, mul-pos, mul-assoc, mul-left-comm, mul-right-comm, mul-le-mul, mul-le-mul-right, mul-lt-mul-of-pos-right, lt-of-mul-lt-mul-right, le-of-mul-le-mul-right}
 use native.Mathlib.Omega.{arith}
@@ -9,7 +9,7 @@ use mathlib.Core.Bool.{Bool, true, false, cond, _&&_, false≢true, true≢false
 use lib.IntN.{ℤ, pos, negsuc}
 use lib.Dec.{T, ltb, ltb→lt, leb, leb→le, eqb, lit≤, lit<}
 use lib.Pow.{pow-add, pow-pos, pow-lt}
-use lib.Ieee.{Float, nan, inf, fin, binary32, up, down, add, mul, div, eq, le, ofBits, fits}
+use lib.Ieee.{Float, nan, inf, fin, binary32, up, down, neg, add, mul, div, eq, ofBits, fits}
 use lib.Ieee.Fits.{and-l, and-r, up-pos, add-fits}
 use lib.Ieee.Exact.{HasValue}
 use lib.Ieee.Positive.{first-pos}
@@ -122,21 +122,28 @@ root-infinite (fin s zero e) t n q = finite-fin s zero e q
 root-infinite (fin true (suc m) e) t n q = finite-nan q
 root-infinite (fin false (suc m) e) t n q = subst (λ (z : Float). Most 65 z) q (above-zero-most m e (fits-says m e t))
 
--- ---- a vector that is not dark: one of its components is not 0, of either sign
+-- ---- a vector that is not dark: one of its components is 2 ^ -140 at least in size
 abbrev pub Shines : Vec3 → Type 0
-Shines v = (eq (v .x) (lit 0) ≡ false) ⊎ ((eq (v .y) (lit 0) ≡ false) ⊎ (eq (v .z) (lit 0) ≡ false))
+Shines v = Least 140 (v .x) ⊎ (Least 140 (v .y) ⊎ Least 140 (v .z))
 
-lit-of : (x : Float) → NotZero x → eq x (lit 0) ≡ false
-lit-of x h = subst (λ (z : Float). eq x z ≡ false) (sym zero-is) h
+-- so it is not 0, of either sign
+pub shines-lit : (v : Vec3) → Shines v → (eq (v .x) (lit 0) ≡ false) ⊎ ((eq (v .y) (lit 0) ≡ false) ⊎ (eq (v .z) (lit 0) ≡ false))
+shines-lit v s = ⊎-elim (λ h. inl (not-zero (v .x) h)) (λ r. ⊎-elim (λ h. inr (inl (not-zero (v .y) h))) (λ h. inr (inr (not-zero (v .z) h))) r) s
+  where
+    not-zero : (x : Float) → Least 140 x → eq x (lit 0) ≡ false
+    not-zero x h = subst (λ (z : Float). eq x z ≡ false) (sym zero-is) (least-lit 140 x h)
 
-dark-zero : eq (lit 0) (lit 0) ≡ true
-unfolding ofBits eq
-dark-zero = refl
+-- and turned round it is not dark either
+minus-one : Least 0 (neg one)
+unfolding ofBits neg
+minus-one = lit≤ tt
 
-pub shines-not-zero : (v : Vec3) → Shines v → v ≡ vzero → ⊥
-shines-not-zero v (inl h) e = true≢false (sym dark-zero ∙ sym (ap (λ (w : Vec3). eq (w .x) (lit 0)) e) ∙ h)
-shines-not-zero v (inr (inl h)) e = true≢false (sym dark-zero ∙ sym (ap (λ (w : Vec3). eq (w .y) (lit 0)) e) ∙ h)
-shines-not-zero v (inr (inr h)) e = true≢false (sym dark-zero ∙ sym (ap (λ (w : Vec3). eq (w .z) (lit 0)) e) ∙ h)
+pub turned-shines : (v : Vec3) → Shines v → Shines (vscale v (neg one))
+unfolding vscale
+turned-shines v s = ⊎-elim (λ h. inl (turned (v .x) h)) (λ r. ⊎-elim (λ h. inr (inl (turned (v .y) h))) (λ h. inr (inr (turned (v .z) h))) r) s
+  where
+    turned : (x : Float) → Least 140 x → Least 140 (f* x (neg one))
+    turned x h = mul-least binary32 140 0 x (neg one) (lit≤ tt) h minus-one
 
 -- ---- where every square vanishes, the length is 0
 zeros : add binary32 (add binary32 zeroF zeroF) zeroF ≡ zeroF
@@ -167,8 +174,8 @@ length-most a n = root-most (f+ (f+ (f* (a .x) (a .x)) (f* (a .y) (a .y))) (f* (
 over-length : (a : Vec3) → (vlength a ≡ inf false → ⊥) → Least 65 (f/ one (vlength a))
 over-length a n = subst (λ (u : Float). Least 65 (f/ u (vlength a))) (sym one-is) (over-least binary32 65 (vlength a) (lit≤ tt) (length-most a n))
 
-times : (x y : Float) → faint x ≡ false → Least 65 y → eq (f* x y) (lit 0) ≡ false
-times x y h k = lit-of (f* x y) (least-lit 140 (f* x y) (mul-least binary32 75 65 x y (lit≤ tt) (not-faint x h) k))
+times : (x y : Float) → faint x ≡ false → Least 65 y → Least 140 (f* x y)
+times x y h k = mul-least binary32 75 65 x y (lit≤ tt) (not-faint x h) k
 
 pub scaled-shines : (a : Vec3) → eq (vlength a) (lit 0) ≡ false → (vlength a ≡ inf false → ⊥) → Shines (vscale a (f/ one (vlength a)))
 unfolding vscale

@@ -13,7 +13,7 @@ use Rattle.boxes.specs.declared.Bounds.{Bounds}
 use Rattle.boxes.specs.Bounds.{grownBy, boundsOf}
 use Rattle.boxes.proofs.Laws.{grown-next}
 use Rattle.rings.specs.Post.{Wrote, Began}
-use Rattle.rings.proofs.Laws.{length-eight, first-vertex}
+use Rattle.rings.proofs.Laws.{length-eight, vec-front}
 use Rattle.lists.specs.Put.{put, upto}
 use Rattle.lists.proofs.Puts.{next, length-upto}
 use Rattle.shape.specs.declared.Kind.{Kind}
@@ -118,7 +118,7 @@ boxed n ring start end h hr hs e₁ e₂ e₃ =
     let lu : length u ≡ m * 24 = length-upto (λ (s : ℕ). ring (s + 1)) 24 m (λ s _. hr (s + 1)) in
     let l : length ((ring 0 ++ start) ++ u) ≡ 3 * (9 + m * 8) = omega (arith, length-append (ring 0 ++ start) u, la, lu) in
     let f : vecAt (ordered n ring start end) 0 ≡ vecAt (ring 0 ++ start) 0 =
-    ap (λ (z : List Float). vecAt z 0) (sym (in-parts n ring start end h)) ∙ first-vertex ((ring 0 ++ start) ++ u) _ (omega arith) ∙ first-vertex (ring 0 ++ start) u (omega arith) in
+    ap (λ (z : List Float). vecAt z 0) (sym (in-parts n ring start end h)) ∙ vec-front ((ring 0 ++ start) ++ u) _ 0 (omega arith) ∙ vec-front (ring 0 ++ start) u 0 (omega arith) in
     let s₁ = grown-next 9 _ (ring 0 ++ start) u e₂ e₁ (la ∙ omega arith) in
     let s₂ = grown-next (9 + m * 8) _ ((ring 0 ++ start) ++ u) (ring (8 * (n - 1)) ++ end) e₃ s₁ l in
     rw (f, ← in-parts n ring start end h) s₂

@@ -4,8 +4,8 @@ use mathlib.Core.List.{List, _++_}
 use Prim.Native.Nat.{ℕ, zero, suc, _+_, _*_, _/_, _%_, _<_, _≤_}
 use native.Mathlib.Omega.{arith}
 use native.Mathlib.Nat.{add-zero}
-use lib.ListN.{length, getD, drop, List·getD-append}
-use lib.Seq.{ext-getD, getD-drop}
+use lib.ListN.{length, getD, take, drop, List·getD-append}
+use lib.Seq.{ext-getD, getD-take, getD-drop, getD-append-add}
 use lib.Ieee.{Float, nan}
 use Rattle.lists.specs.Put.{put, upto}
 use Rattle.lists.proofs.Puts.{length-upto, getD-put-past, getD-put-before, getD-put-in, upto-at, put-all}
@@ -71,9 +71,24 @@ pub first-eight : (ps : List Vec3) (l : List Float) → vecAt (eight ps ++ l) 0 
 unfolding eight upto vecAt
 first-eight ps l = refl
 
-pub first-vertex : (xs ys : List Float) → 3 ≤ length xs → vecAt (xs ++ ys) 0 ≡ vecAt xs 0
+-- a vector of a list that goes on, the one behind a list, and one of a part of a list
+pub vec-front : (xs ys : List Float) (i : ℕ) → 3 * i + 3 ≤ length xs → vecAt (xs ++ ys) i ≡ vecAt xs i
 unfolding vecAt
-first-vertex xs ys h = rw (List·getD-append xs ys nan (3 * 0) (omega arith), List·getD-append xs ys nan (3 * 0 + 1) (omega arith), List·getD-append xs ys nan (3 * 0 + 2) (omega arith))
+vec-front xs ys i h = rw (List·getD-append xs ys nan (3 * i) (omega arith), List·getD-append xs ys nan (3 * i + 1) (omega arith), List·getD-append xs ys nan (3 * i + 2) (omega arith))
+
+pub vec-last : (l : List Float) (v : Vec3) (i : ℕ) → length l ≡ 3 * i → vecAt (l ++ floats v) i ≡ v
+unfolding vecAt
+vec-last l v i e =
+    let at : (j k : ℕ) → 3 * i + j ≡ k → getD (l ++ floats v) k nan ≡ getD (floats v) j nan =
+    λ j k q. ap (λ (m : ℕ). getD (l ++ floats v) m nan) (omega (arith, q, e)) ∙ getD-append-add l (floats v) j nan in
+    rw (at 0 (3 * i) (add-zero (3 * i)), at 1 (3 * i + 1) refl, at 2 (3 * i + 2) refl)
+
+pub vec-part : (l x : List Float) (i n j : ℕ) → take (3 * n) (drop (3 * i) l) ≡ x → j < n → vecAt l (i + j) ≡ vecAt x j
+unfolding vecAt
+vec-part l x i n j e h =
+    let at : (a b : ℕ) → a < 3 * n → 3 * i + a ≡ b → getD l b nan ≡ getD x a nan =
+    λ a b q r. ap (λ (m : ℕ). getD l m nan) (sym r) ∙ sym (rw (← e, getD-take, getD-drop)) in
+    rw (at (3 * j) (3 * (i + j)) (omega arith) (omega arith), at (3 * j + 1) (3 * (i + j) + 1) (omega arith) (omega arith), at (3 * j + 2) (3 * (i + j) + 2) (omega arith) (omega arith))
 
 -- a place of a list is a part of one of its vectors
 place : (a b : List Float) (i r : ℕ) → r < 3 → vecAt a i ≡ vecAt b i → getD a (3 * i + r) nan ≡ getD b (3 * i + r) nan
