@@ -2,7 +2,7 @@
 use Prim.Native.Nat.{ℕ, zero, suc, _<_, _≤_}
 use mathlib.Core.Bool.{Bool, true, false, _||_, cond, or-assoc, or-false, or-true}
 use mathlib.Core.Path.{_≡_, refl, sym, ap, _∙_, subst}
-use mathlib.Core.List.{List, [], _∷_, _++_, append-assoc}
+use mathlib.Core.List.{List, [], _∷_, _++_, append-assoc, append-nil}
 use native.Mathlib.Omega.{arith}
 use lib.Dec.{eqb}
 use lib.ListN.{length, getD, length-append}
@@ -66,11 +66,7 @@ extra s (x ∷ l) = cond (member x s) (extra s l) (x ∷ extra (s ++ (x ∷ []))
 
 pub distinct-front : (s l : List ℕ) → distinct s l ≡ s ++ extra s l
 unfolding distinct extra
-distinct-front s [] = sym (nil s)
-  where
-    nil : (s : List ℕ) → (s ++ []) ≡ s
-    nil [] = refl
-    nil (x ∷ s) = ap (λ (t : List ℕ). x ∷ t) (nil s)
+distinct-front s [] = sym (append-nil s)
 distinct-front s (x ∷ l) = go (member x s) (distinct-front s l) (distinct-front (s ++ (x ∷ [])) l)
   where
     go : (b : Bool) → distinct s l ≡ s ++ extra s l → distinct (s ++ (x ∷ [])) l ≡ (s ++ (x ∷ [])) ++ extra (s ++ (x ∷ [])) l

@@ -1,6 +1,6 @@
 -- An index of the residues that segments name. Assumes nothing.
 use Prim.Native.Nat.{ℕ, suc, _-_, _<_, _≤_}
-use mathlib.Core.Bool.{Bool, true, false, cond, _||_, or-true}
+use mathlib.Core.Bool.{Bool, true, false, cond, _||_, or-true, or-false}
 use mathlib.Core.Path.{_≡_, refl, sym, ap, _∙_, subst}
 use mathlib.Core.List.{List, [], _∷_, _++_, append-assoc, append-nil}
 use native.Mathlib.Omega.{arith}
@@ -54,10 +54,6 @@ module _ (l : List ℕ) (y : ℕ) where
   member-other : (x : ℕ) → (x ≡ y → ⊥) → member x (l ++ (y ∷ [])) ≡ member x l
   unfolding member
   member-other x d = member-append x l (y ∷ []) ∙ ap (λ (b : Bool). member x l || (b || false)) (ne-eqb x y d) ∙ or-false (member x l)
-    where
-      or-false : (b : Bool) → (b || false) ≡ b
-      or-false true = refl
-      or-false false = refl
 
 module _ (keys links bits : List ℕ) (n : ℕ) (l : List ℕ) (W : Wanted keys links bits n l) (y p : ℕ) (e : p ≡ last (isKey keys y) n) where
   key-at : (x i : ℕ) → last (isKey keys x) n ≡ suc i → getD keys i 0 ≡ x

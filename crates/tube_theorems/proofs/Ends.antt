@@ -1,6 +1,6 @@
 -- What is covered: by a segment of two frames or more, hidden or not, and only where there is a C-alpha. Assumes nothing.
 use Prim.Native.Nat.{ℕ, zero, suc, _<_, _≤_}
-use mathlib.Core.Bool.{Bool, true, false, _||_}
+use mathlib.Core.Bool.{Bool, true, false, _||_, or-true}
 use mathlib.Core.Path.{_≡_, refl}
 use mathlib.Core.Logic.{⊎-elim}
 use native.Mathlib.Nat.{le-of-suc-le-suc, eq-or-lt-of-le}
@@ -31,10 +31,6 @@ pub some-any : (t : ℕ → Bool) (n i : ℕ) → i < n → t i ≡ true → any
 unfolding any
 some-any t zero i l e = absurd (omega arith)
 some-any t (suc n) i l e = ⊎-elim (λ q. rw (← q, e) (or-true (any t i))) (λ m. rw (some-any t n i m e)) (eq-or-lt-of-le (le-of-suc-le-suc l))
-  where
-    or-true : (b : Bool) → (b || true) ≡ true
-    or-true true = refl
-    or-true false = refl
 
 -- a segment's C-alpha is a C-alpha
 alpha-of : (J : Job) (g : Range) (r a : ℕ) → gives J (SegmentAlpha g) r a ≡ true → gives J Alpha r a ≡ true
