@@ -9,7 +9,6 @@ use lib.ListN.{length, getD}
 use Rattle.vectors.specs.declared.Vec3.{Vec3}
 use Rattle.vectors.specs.Vec.{eight, vpast}
 use Rattle.vectors.proofs.Flat.{first-eight}
-pub use Rattle.vectors.proofs.Flat.{length-eight, vec-front}
 use Rattle.lists.specs.Put.{put, upto}
 use Rattle.lists.proofs.Puts.{next, turn, kept, length-upto, upto-more}
 use Rattle.boxes.specs.declared.Bounds.{Bounds}

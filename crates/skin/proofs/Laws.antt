@@ -13,7 +13,7 @@ use Rattle.boxes.specs.declared.Bounds.{Bounds}
 use Rattle.boxes.specs.Bounds.{grownBy, boundsOf}
 use Rattle.boxes.proofs.Laws.{grown-next}
 use Rattle.rings.specs.Post.{Wrote, Began}
-use Rattle.rings.proofs.Laws.{length-eight, vec-front}
+use Rattle.vectors.proofs.Flat.{length-eight, vec-front}
 use Rattle.lists.specs.Put.{put, upto}
 use Rattle.lists.proofs.Puts.{next, length-upto}
 use Rattle.shape.specs.declared.Kind.{Kind}

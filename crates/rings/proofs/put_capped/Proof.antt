@@ -1,7 +1,8 @@
 use mathlib.Core.Path.{refl}
 use native.Mathlib.Omega.{arith}
 use Prim.Native.Nat.{_+_}
-use Rattle.rings.proofs.Laws.{wrote-next, less, room, length-eight}
+use Rattle.vectors.proofs.Flat.{length-eight}
+use Rattle.rings.proofs.Laws.{wrote-next, less, room}
 use borrow.Author.Needs.{needs}
 use Rattle.rings.proofs.put_capped.Statement.{statement}
 use Rattle.rings.proofs.put_capped.Tie as tie
