@@ -32,8 +32,10 @@
  *
  * A MESH is K tubes, one after the other in every buffer. A tube of n residues has 64 n - 54 vertices and 128 n - 112 triangles, and is closed.
  *   positions  3 V floats, x, y, z of each vertex, in the unit of the job's coordinates: a PDB file's is the angstrom.
- *   normals    3 V floats, which point out of the tube. Each is a vector times 1 / its length, so of length 1 but for rounding. Where that length is 0 there
- *              is no direction and the normal is 0, 0, 0, as at the end cap of a coil whose last two C-alphas are at one place.
+ *   normals    3 V floats, which point out of the tube. Each is a vector times 1 / its length, so of length 1 but for rounding. The normals at the centres of both
+ *              caps of a tube are finite and not 0, 0, 0. Where a tube's last two spline points coincide, as those of a coil whose last two C-alphas are at one
+ *              place, its end cap has the tangent of the last sample, which is 0, 1, 0 or what rounding leaves: it may point into the tube. A ring's normal whose
+ *              length is 0 would be 0, 0, 0.
  *   tags       V words: the number of the residue that the vertex belongs to.
  *   triangles  3 T words, the corners, each the number of a vertex, counted over the whole mesh and not from its tube's first one. The triangles wind INWARD:
  *              seen from outside their corners run clockwise. A program that shades or prints by winding wants two corners of each triangle swapped.
