@@ -1,7 +1,8 @@
-/* Builds the job on standard input: asks for the plan, allocates exactly what it needs, builds, and prints the first vertex.
+/* Builds the job on standard input: asks for the plan, allocates exactly what it needs, builds, and prints each tube and the first vertex.
  * Round every buffer stand words that no call may touch. Build and run: examples/run-c. */
 #include "ribbon.h"
 #include <errno.h>
+#include <math.h>
 #include <stdio.h>
 #include <stdlib.h>
 #include <string.h>
@@ -53,6 +54,11 @@ static int holds(const float *box, const float *vertices, size_t count) {
     return 1;
 }
 
+/* whether a normal can be shaded by: three finite numbers, and not all of them 0 */
+static int lit(const float *n) {
+    return isfinite(n[0]) && isfinite(n[1]) && isfinite(n[2]) && (n[0] != 0 || n[1] != 0 || n[2] != 0);
+}
+
 int main(void) {
     static uint8_t job[65536];
     size_t len = input(job, sizeof job), residues = len < 13 ? 0 : RIBBON_RESIDUES(job);
@@ -84,6 +90,10 @@ int main(void) {
         if (!holds(box, positions + 3 * tube[3], 64 * tube[2] - 54)) return wrong("a vertex is outside its tube's box");
         printf("tube %zu: %zu corners from place %zu, residue %u on, box %g %g %g to %g %g %g\n", i, n, start, tube[1], box[0], box[1], box[2], box[3], box[4],
                box[5]);
+        /* the centre of the start cap is the ninth vertex of a tube, that of the end cap the last */
+        const float *first = normals + 3 * (tube[3] + 8), *last = normals + 3 * (tube[3] + 64 * tube[2] - 55);
+        if (!lit(first) || !lit(last)) return wrong("a cap would shade black");
+        printf("its caps: normals %g %g %g and %g %g %g\n", first[0], first[1], first[2], last[0], last[1], last[2]);
     }
     if (v) printf("vertex 0 at %g %g %g, normal %g %g %g\n", positions[0], positions[1], positions[2], normals[0], normals[1], normals[2]);
     return end(0);

@@ -11,8 +11,11 @@
  * vertices of zeros. PARTIES=right keeps every promise. PARTIES=gap, behind or other changes the place before the caller's share of the triangles, behind its
  * mesh or the first one of the other's; guard the one before that buffer; mesh writes another word; scratch leaves a word there; counts answers others; overlap
  * takes shares that overlap, leave those that leave a buffer, wrap those whose end wraps; touch refuses those that touch, empty those that are empty; late
- * clears the scratch under 20; size takes a job that has segments, cut records that are not whole. */
+ * clears the scratch under 20; size takes a job that has segments, cut records that are not whole.
+ * Where the variable CAPS is set it plays a library with one mesh, for examples/ribbon.c: any job has 74 vertices at the origin. CAPS=right has normals at both
+ * caps; start and end leave one of them zero, nan makes a NaN of one. */
 #include "ribbon.h"
+#include <math.h>
 #include <stdlib.h>
 #include <string.h>
 
@@ -54,6 +57,15 @@ void ribbon_build(const uint8_t *job, size_t job_len, float *positions, size_t p
         say(answer, 4, 0, (uint32_t)tubes_len / 5, (uint32_t)tags_len, (uint32_t)triangles_len / 3);
         return;
     }
+    if (getenv("CAPS") && positions_len == 222) {
+        const char *caps = getenv("CAPS");
+        for (int i = 0; i < 6; i++) memset(at[i], 0, 4 * sizes[i]);
+        tubes[2] = 2;
+        normals[3 * 8] = strcmp(caps, "start") ? -1 : 0, normals[3 * 73] = !strcmp(caps, "end") ? 0 : !strcmp(caps, "nan") ? NAN : 1;
+        say(answer, 4, 0, 1, 74, 144);
+        return;
+    }
+    touch = touch ? touch : getenv("CAPS");
     say(answer, 4, touch ? RIBBON_NO_ROOM : RIBBON_BAD_LENGTH, touch ? 1 : 0, touch ? 74 : 0, touch ? 144 : 0);
     if (touch && *touch >= '0' && *touch <= '5') touch_byte(touch, at[*touch - '0'], 4 * sizes[*touch - '0']);
 }
@@ -62,7 +74,7 @@ void ribbon_plan(const uint8_t *job, size_t job_len, size_t k, uint32_t *words, 
                  uint32_t answer[9]) {
     (void)job, (void)job_len, (void)k, (void)words, (void)words_len, (void)floats, (void)floats_len;
     if (plays("empty")) say(answer, 9, 0, 0, 0, 0);
-    else if (getenv("TOUCH") || getenv("STL")) say(answer, 9, 0, 1, 74, 144);
+    else if (getenv("TOUCH") || getenv("STL") || getenv("CAPS")) say(answer, 9, 0, 1, 74, 144);
     else say(answer, 9, RIBBON_BAD_LENGTH, 0, 0, 0);
 }
 

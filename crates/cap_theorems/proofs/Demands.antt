@@ -2,10 +2,10 @@
 -- s, with the buffers b lent, it answers r and leaves the buffers as b'), `BuildsShare s q m k b r b'` all that the one
 -- of build_share says. Assumes nothing. The definitions are those of specs/Caps, and `directionOf` of vectors.
 -- docs/PROOFS.md quotes each statement, with words.
-use Prim.Native.Nat.{ℕ, _-_, _*_, _<_, _≤_}
+use Prim.Native.Nat.{ℕ, _-_, _*_, _<_}
 use mathlib.Core.Bool.{true}
 use mathlib.Core.List.{List}
-use mathlib.Core.Path.{_≡_, sym, _∙_, ap}
+use mathlib.Core.Path.{_≡_}
 use lib.ListN.{length, take, drop}
 use lib.Ieee.{eq}
 use Rattle.vectors.specs.declared.Vec3.{Vec3}
@@ -28,11 +28,12 @@ use Rattle.promises.specs.Meshes.{proteinIn, tubesIn, TubeAt, verticesOf}
 use Rattle.party_promises.specs.Calls.{BuildsShare}
 use Rattle.party_promises.specs.Parties.{AllBytes, inShare}
 use Rattle.party_promises.proofs.Demands as party
-use Rattle.cap_theorems.specs.Caps.{startCentre, endCentre, normalAt, Lit, pointsIn, guidesIn, lastChord, lastTangent, rustNormals}
+use Rattle.cap_theorems.specs.Caps.{startCentre, endCentre, normalAt, Lit}
+use Rattle.cap_theorems.specs.Caps.{pointsIn, guidesIn, lastChord, lastTangent, rustNormals}
 use Rattle.cap_theorems.proofs.Ends as ends
 
--- ==== 'No cap normal of zero': in every mesh that is handed out, the normals at the centres of each tube's two caps have
--- three finite components, of which one is not 0.
+-- ==== 'No cap normal of zero': in every mesh that is handed out, the normals at the centres of each tube's two caps
+-- have three finite components, of which one is not 0.
 
 pub caps-lit : {s : List ℕ} {b b' : Buffers} {c : Counts} {k : ℕ} → Builds s b (Mesh c) b' → k < c .tubes
     → Lit (normalAt (b' .outs) (startCentre (b' .outs) k)) × Lit (normalAt (b' .outs) (endCentre (b' .outs) k))

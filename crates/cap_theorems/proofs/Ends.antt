@@ -1,6 +1,6 @@
 -- The normals of a tube end with its end cap's, in the list and in the buffers. Assumes nothing.
 use Prim.Native.Nat.{ℕ, _+_, _-_, _*_, _<_, _≤_}
-use mathlib.Core.Bool.{true, false}
+use mathlib.Core.Bool.{true}
 use mathlib.Core.List.{List, _++_}
 use mathlib.Core.Path.{_≡_, refl, sym, _∙_, ap, subst}
 use native.Mathlib.Omega.{arith}
@@ -14,7 +14,6 @@ use Rattle.vectors.proofs.Flat.{vec-front, vec-last, vec-part}
 use Rattle.lists.specs.Put.{upto}
 use Rattle.sizes.proofs.Lengths.{shines-lit}
 use Rattle.sizes.proofs.Most.{Real}
-use Rattle.edges.specs.Tube.{vertexCount}
 use Rattle.edges.proofs.Theorems.{vertex-count}
 use Rattle.caps.specs.Caps.{endNormal}
 use Rattle.caps.proofs.Laws.{chord-kept, tangent-taken}
@@ -31,7 +30,6 @@ use Rattle.room.specs.Room.{Buffers}
 use Rattle.promises.specs.declared.Built.the-variants.{Mesh}
 use Rattle.promises.specs.Calls.{Builds}
 use Rattle.promises.specs.Meshes.{proteinIn, tubesIn, TubeAt, TubeStands, verticesOf}
-use Rattle.promises.specs.Boxes.{residuesOf, firstVertex}
 use Rattle.promises.proofs.Tubes.{length-alphas, length-normals}
 use Rattle.promises.proofs.Boxes.{first-is, residues-is}
 use Rattle.promises.proofs.Together as calls

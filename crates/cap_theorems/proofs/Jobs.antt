@@ -1,12 +1,11 @@
 -- Of an accepted job: check 8 keeps every coordinate within 16384, so each C-alpha of a tube is at most 2 ^ 14 in size, and the caps of every tube have normals that are finite and not dark. Assumes nothing.
-use Prim.Native.Nat.{ℕ, zero, suc, _-_, _*_, _^_, _≤_, _<_}
+use Prim.Native.Nat.{ℕ, zero, suc, _-_, _*_, _≤_}
 use mathlib.Core.Bool.{Bool, true, false, not, _||_, false≢true}
 use mathlib.Core.List.{List, [], _∷_, map}
 use mathlib.Core.Path.{_≡_, refl, sym, _∙_, ap, subst}
 use native.Mathlib.Omega.{arith}
 use borrow.Author.Tests.{leb-true}
 use lib.Dec.{lit≤}
-use lib.IntN.{pos}
 use lib.ListN.{length, getD}
 use lib.Ieee.{Float, nan, inf, fin, binary32, binary64, up, down, le, ofBits}
 use lib.Ieee.Fits.{down-pos}

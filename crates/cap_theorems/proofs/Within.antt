@@ -4,11 +4,11 @@ use mathlib.Core.Path.{_≡_, refl, sym, ap, _∙_, subst}
 use mathlib.Core.Logic.{inl, inr}
 use mathlib.Core.Bool.{Bool, true, false, cond, _||_, Bool·beq, true≢false, false≢true}
 use mathlib.Core.List.{List}
-use Prim.Native.Nat.{ℕ, zero, suc, _+_, _-_, _*_, _^_, _≤_, _<_}
+use Prim.Native.Nat.{ℕ, suc, _+_, _-_, _*_, _^_, _≤_, _<_}
 use native.Mathlib.Omega.{arith}
-use borrow.Author.Tests.{lt-ltb, eq-eqb, eqb-false}
+use borrow.Author.Tests.{lt-ltb, eqb-false}
 use lib.IntN.{pos, negsuc}
-use lib.Dec.{T, ltb, eqb, eqb→eq, lit≤}
+use lib.Dec.{T, eqb, eqb→eq, lit≤}
 use lib.Ieee.{Float, nan, inf, fin, binary32, up, down, eq, lt, neg, ofBits, ofInt, div}
 use lib.Ieee.Fits.{and-l, down-pos}
 use Rattle.vectors.specs.declared.Vec3.{Vec3}
@@ -23,7 +23,7 @@ use Rattle.shape.specs.declared.Kind.{Kind}
 use Rattle.shape.specs.declared.Kind.the-variants.{Coil, Helix, Sheet}
 use Rattle.shape.specs.Spline.{two, three, four, five, bend, twist, catmullRomTangent, of4}
 use Rattle.shape.specs.Guide.{yaxis, tiny, directed, weighted, smoothPosition}
-use Rattle.smooth.specs.Pass.{atEnd, positionPass, repeated, smoothPositions}
+use Rattle.smooth.specs.Pass.{positionPass, repeated, smoothPositions}
 use Rattle.smooth.proofs.Laws.{position-at}
 use Rattle.curve.specs.Residues.{pointsOf}
 use Rattle.curve.specs.Samples.{beforeOf, afterOf, spanOf, spanAt, paramAt, frameOf, frameAt}

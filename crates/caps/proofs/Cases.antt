@@ -4,9 +4,9 @@ use mathlib.Core.List.{List, [], _∷_, map}
 use Prim.Native.Nat.{ℕ}
 use lib.Count.{trailingZeros}
 use lib.Dec.{T}
-use lib.Ieee.{Float, binary32, toBits, ofBits, ofFields, odd, span, climb, size, units, round, sum, add, sub, neg, mul, div, ofInt, lt, eq, le, isNan}
+use lib.Ieee.{binary32, toBits, ofBits, ofFields, odd, span, climb, size, units, round, sum, add, sub, neg, mul, div, ofInt, lt, eq, le, isNan}
 use Rattle.floats.specs.Floats.{root, nearestRoot, floorRoot, rootDigits}
-use Rattle.vectors.specs.Vec.{vadd, vsub, vscale, vdot, vlength, normalised, directionOf, vecAt, lit, floats}
+use Rattle.vectors.specs.Vec.{vadd, vsub, vscale, vdot, vlength, normalised, directionOf, vecAt, floats}
 use Rattle.lists.specs.Same.{sameList}
 use Rattle.shape.specs.Spline.{bend, twist, catmullRomTangent}
 use Rattle.shape.specs.Guide.{directed}

@@ -49,11 +49,6 @@ fin-lit s m e h = is-false (level s (m * up e * 1) false (0 * 1 * down e)) (off 
     differ : (a d : ℕ) → 0 < a → a * 1 ≡ 0 * 1 * d → ⊥
     differ a d h e = omega arith
 
-pub value-lit : (x : Float) (s : Bool) (a c : ℕ) → HasValue x s a c → 0 < a → NotZero x
-value-lit nan s a c v h = absurd v
-value-lit (inf t) s a c v h = absurd v
-value-lit (fin t m e) s a c v h = fin-lit t m e (first-pos (m * up e) c (subst (λ (z : ℕ). 0 < z) (sym (v .1)) (mul-pos h (down-pos e))))
-
 -- ---- a power of two below a fraction stays below what it is rounded to
 pub split : (j k : ℕ) → k ≤ j → 2 ^ (j - k) * 2 ^ k ≡ 2 ^ j
 split j k h = let e : j - k + k ≡ j = omega arith in sym (pow-add 2 (j - k) k) ∙ ap (λ (x : ℕ). 2 ^ x) e

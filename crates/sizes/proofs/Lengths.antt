@@ -1,11 +1,11 @@
--- 02 §6: a direction is never a zero vector. A vector that has one, and whose computed length is not infinite, is scaled to a vector with a component that is not 0, of
--- either sign. Nothing is asked of its components: they may be subnormal, huge or NaN. Assumes nothing.
+-- Lengths: the root of a finite f32 above 0 lies from 2 ^ -75 to 2 ^ 65; so a vector whose computed length is neither 0 nor infinite has, over that length, a component of
+-- 2 ^ -140 at least. Nothing is asked of its components: they may be subnormal, huge or NaN. Assumes nothing.
 use mathlib.Core.Path.{_≡_, refl, sym, ap, _∙_, subst}
 use mathlib.Core.Logic.{_⊎_, inl, inr, ⊎-elim}
 use Prim.Native.Nat.{ℕ, zero, suc, _+_, _-_, _*_, _%_, _^_, _≤_, _<_, zero-le}
 use native.Mathlib.Nat.{le-trans, le-of-eq, le-of-lt, le-of-suc-le-suc, lt-of-lt-of-le, lt-of-le-of-lt, lt-of-not-le, not-le-of-lt, zero-lt-suc, eq-zero-or-pos, zero-mul, one-mul, mul-one, mul-pos, mul-assoc, mul-left-comm, mul-right-comm, mul-le-mul, mul-le-mul-right, mul-lt-mul-of-pos-right, lt-of-mul-lt-mul-right, le-of-mul-le-mul-right}
 use native.Mathlib.Omega.{arith}
-use mathlib.Core.Bool.{Bool, true, false, cond, _&&_, false≢true, true≢false}
+use mathlib.Core.Bool.{Bool, true, false, _&&_, true≢false}
 use lib.IntN.{ℤ, pos, negsuc}
 use lib.Dec.{T, ltb, ltb→lt, leb, leb→le, eqb, lit≤, lit<}
 use lib.Pow.{pow-add, pow-pos, pow-lt}
@@ -20,8 +20,7 @@ use Rattle.floats.proofs.NearestRoot.{root-is-nearest}
 use Rattle.vectors.specs.declared.Vec3.{Vec3}
 use Rattle.vectors.specs.declared.Direction.the-variants.{Along}
 use Rattle.vectors.specs.Vec.{vec, vscale, vdot, vlength, vzero, lit, one, f/, f*, f+, directionOf}
-use Rattle.vectors.proofs.Directions.{along}
-use Rattle.sizes.proofs.Least.{zeroF, zero-is, NotZero, Least, least-lit, Most, one-is, mul-least, over-least, faint, not-faint, faint-square}
+use Rattle.sizes.proofs.Least.{zeroF, zero-is, Least, least-lit, Most, one-is, mul-least, over-least, faint, not-faint, faint-square}
 
 -- ---- the root of what f32 holds is below 2 ^ 65
 -- a value of the format is a whole number of its smallest values
@@ -187,11 +186,7 @@ scaled-shines a h n = go (faint (a .x)) (faint (a .y)) (faint (a .z)) refl refl 
     go true true false b c d = inr (inr (times (a .z) (f/ one (vlength a)) d (over-length a n)))
     go true true true b c d = absurd (true≢false (sym zero-dark ∙ sym (ap (λ (u : Float). eq u (lit 0)) (faint-length a b c d)) ∙ h))
 
--- ---- THE theorem: a direction is not dark
-pub direction-shines : (a v : Vec3) → directionOf a ≡ Along v → (vlength a ≡ inf false → ⊥) → Shines v
-direction-shines a v e n = let k = along a v e in subst Shines (sym (k .1)) (scaled-shines a (k .0) n)
-
--- a bound is needed: (2 ^ 65, 0, 0) has a length of infinity, and 1 over it is 0
+-- that it be no infinity is needed: (2 ^ 65, 0, 0) has a length of infinity, and 1 over it is 0
 pub bound-needed : directionOf (vec (lit 0x60000000) (lit 0) (lit 0)) ≡ Along vzero
 unfolding directionOf vlength vdot vscale root add mul div eq ofBits
 bound-needed = refl

@@ -2,7 +2,7 @@
 -- whose components are finite and not too large has a length that is no infinity, and a direction whose components are finite. Assumes nothing.
 use mathlib.Core.Path.{_≡_, refl, sym, ap, _∙_, subst}
 use Prim.Native.Nat.{ℕ, zero, suc, _+_, _-_, _*_, _/_, _%_, _^_, _≤_, _<_}
-use native.Mathlib.Nat.{two-pow-succ, not-suc-le-zero, le-of-suc-le-suc, le-refl, le-trans, le-of-eq, lt-of-lt-of-le, lt-of-le-of-lt, lt-irrefl, zero-mul, one-mul, mul-one, mul-pos, mul-comm, mul-assoc, mul-right-comm, mul-mul-mul-comm, mul-le-mul, mul-le-mul-right, le-of-mul-le-mul-right, div-lt-iff-lt-mul, div-one, add-mul, mul-lt-mul-of-pos-right}
+use native.Mathlib.Nat.{two-pow-succ, le-refl, le-trans, le-of-eq, lt-of-lt-of-le, lt-of-le-of-lt, lt-irrefl, zero-mul, one-mul, mul-one, mul-pos, mul-comm, mul-assoc, mul-right-comm, mul-mul-mul-comm, mul-le-mul, mul-le-mul-right, le-of-mul-le-mul-right, div-lt-iff-lt-mul, div-one, add-mul, mul-lt-mul-of-pos-right}
 use native.Mathlib.Omega.{arith}
 use mathlib.Core.Bool.{Bool, true, false, cond, Bool·beq, _&&_, _||_, true≢false}
 use lib.IntN.{ℤ}
