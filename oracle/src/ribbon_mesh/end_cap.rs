@@ -1,6 +1,7 @@
-//! The mistakes at an end cap. None is made in the text of document 000 itself, so that a build asks once for each tube.
+//! The mistakes at an end cap. None is made in the text of document 000 itself, so that a build asks once for each tube; and none of its functions is
+//! called that its own text calls once, since a second caller changes how the compiler inlines it, and the bench times that.
 
-use super::{ResidueFrame, Vec3F32, catmull_rom_tangent, fallback_perp};
+use super::{ResidueFrame, Vec3F32, fallback_perp};
 use crate::wrong::{self, Mutation};
 
 /// What document 000 has computed when it comes to the end cap.
@@ -27,6 +28,8 @@ impl<'a> Tube<'a> {
     }
 
     /// The normal by the mistake in force, where that is one about end caps and changes it.
+    #[cold]
+    #[inline(never)]
     pub fn mistaken(&self, chord: Vec3F32, last_tan: Vec3F32) -> Option<Vec3F32> {
         let m = wrong::now()?;
         let nowhere = chord.magnitude() == 0.0;
@@ -86,10 +89,12 @@ impl<'a> Tube<'a> {
         }
     }
 
-    /// The derivative of span `i` at `t`.
+    /// The derivative of span `i` at `t`, by document 000's formula.
     fn derivative(&self, i: usize, t: f32) -> Vec3F32 {
         let [p0, p1, p2, p3] = [-1, 0, 1, 2].map(|k| self.point(i as isize + k));
-        catmull_rom_tangent(p0, p1, p2, p3, t)
+        (p2 - p0)
+            + (p0 * 2.0 - p1 * 5.0 + p2 * 4.0 - p3) * (2.0 * t)
+            + (p0 * (-1.0) + p1 * 3.0 - p2 * 3.0 + p3) * (3.0 * (t * t))
     }
 
     /// The guide at the last sample.
