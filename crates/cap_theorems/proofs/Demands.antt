@@ -28,7 +28,7 @@ use Rattle.promises.specs.Meshes.{proteinIn, tubesIn, TubeAt, verticesOf}
 use Rattle.party_promises.specs.Calls.{BuildsShare}
 use Rattle.party_promises.specs.Parties.{AllBytes, inShare}
 use Rattle.party_promises.proofs.Demands as party
-use Rattle.cap_theorems.specs.Caps.{startCentre, endCentre, normalAt, Lit}
+use Rattle.cap_theorems.specs.Caps.{startCap, endCap, normalAt, Lit}
 use Rattle.cap_theorems.specs.Caps.{pointsIn, guidesIn, lastChord, lastTangent, rustNormals}
 use Rattle.cap_theorems.proofs.Ends as ends
 
@@ -36,14 +36,14 @@ use Rattle.cap_theorems.proofs.Ends as ends
 -- have three finite components, of which one is not 0.
 
 pub caps-lit : {s : List ℕ} {b b' : Buffers} {c : Counts} {k : ℕ} → Builds s b (Mesh c) b' → k < c .tubes
-    → Lit (normalAt (b' .outs) (startCentre (b' .outs) k)) × Lit (normalAt (b' .outs) (endCentre (b' .outs) k))
+    → Lit (normalAt (b' .outs) (startCap (b' .outs) k)) × Lit (normalAt (b' .outs) (endCap (b' .outs) k))
 caps-lit B h = ends.lit _ _ _ _ _ B h
 
 -- so in a party's share
 pub share-caps-lit : {s q : List ℕ} {m o : Shares} {b b' : Buffers} {c : Counts} {k : ℕ} → AllBytes s
     → BuildsShare s q m o b (Mesh c) b' → k < c .tubes
-    → Lit (normalAt (inShare m b' .outs) (startCentre (inShare m b' .outs) k))
-    × Lit (normalAt (inShare m b' .outs) (endCentre (inShare m b' .outs) k))
+    → Lit (normalAt (inShare m b' .outs) (startCap (inShare m b' .outs) k))
+    × Lit (normalAt (inShare m b' .outs) (endCap (inShare m b' .outs) k))
 share-caps-lit y B h = caps-lit (party.mesh-as-job y B) h
 
 -- ==== 'Normalising a vector of length 0 must say that there is no direction', and that of no other vector does: the
@@ -64,7 +64,7 @@ coincide k B at e = ends.same-points _ _ _ _ k B _ at e
 
 pub cap-tangent : {s : List ℕ} {b b' : Buffers} {c : Counts} (k : ℕ) {u : Tube}
     → Builds s b (Mesh c) b' → TubeAt (tubesIn s) k u → directionOf (lastChord (proteinIn s) u) ≡ Nowhere
-    → normalAt (b' .outs) (endCentre (b' .outs) k) ≡ lastTangent (proteinIn s) u
+    → normalAt (b' .outs) (endCap (b' .outs) k) ≡ lastTangent (proteinIn s) u
 cap-tangent k B at e = ends.tangent _ _ _ _ k B _ at e
 
 -- 01: 'the last uses span n-2 with t = 1'
@@ -77,7 +77,7 @@ last-sample P u = caps.last-tangent (pointsIn P u) (guidesIn P u) (sizeOf u)
 
 pub cap-chord : {s : List ℕ} {b b' : Buffers} {c : Counts} (k : ℕ) {u : Tube} {v : Vec3}
     → Builds s b (Mesh c) b' → TubeAt (tubesIn s) k u → directionOf (lastChord (proteinIn s) u) ≡ Along v
-    → (normalAt (b' .outs) (endCentre (b' .outs) k) ≡ v) × (normalised (lastChord (proteinIn s) u) ≡ v)
+    → (normalAt (b' .outs) (endCap (b' .outs) k) ≡ v) × (normalised (lastChord (proteinIn s) u) ≡ v)
 cap-chord k B at e = ends.chord-taken _ _ _ _ k B _ at _ e
 
 pub all-the-rusts : (P : Protein) (u : Tube) (v : Vec3)

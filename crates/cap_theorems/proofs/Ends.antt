@@ -34,7 +34,7 @@ use Rattle.promises.proofs.Tubes.{length-alphas, length-normals}
 use Rattle.promises.proofs.Boxes.{first-is, residues-is}
 use Rattle.promises.proofs.Together as calls
 use Rattle.promises.proofs.Demands as demands
-use Rattle.cap_theorems.specs.Caps.{startCentre, endCentre, isFinite, Lit, pointsIn, guidesIn, lastChord, lastTangent, normalsTo, rustNormals}
+use Rattle.cap_theorems.specs.Caps.{startCap, endCap, isFinite, Lit, pointsIn, guidesIn, lastChord, lastTangent, normalsTo, rustNormals}
 use Rattle.cap_theorems.proofs.Within.{Normal}
 use Rattle.cap_theorems.proofs.Jobs.{start-normal, end-normal, coincide}
 
@@ -105,19 +105,19 @@ start-in P u e =
 -- ---- in the buffers
 
 module _ (P : Protein) (u : Tube) (k v t : ℕ) (o : Outs) (S : TubeStands P u k v t o) where
-  pub cap-is : vecAt (o .normals) (endCentre o k) ≡ capOf P u
+  pub cap-is : vecAt (o .normals) (endCap o k) ≡ capOf P u
   cap-is =
       let two = S .two in
-      let at : endCentre o k ≡ v + (verticesOf u - 1) = omega (arith, first-is P u k v t o S, residues-is P u k v t o S) in
+      let at : endCap o k ≡ v + (verticesOf u - 1) = omega (arith, first-is P u k v t o S, residues-is P u k v t o S) in
       ap (vecAt (o .normals)) at
       ∙ vec-part (o .normals) (tubeNormals P u) v (verticesOf u) (verticesOf u - 1) (S .normals .there) (omega arith)
       ∙ ap (λ (l : List Float). vecAt l (verticesOf u - 1)) (normals-are P u ∙ front-then P u (capOf P u))
       ∙ vec-last (frontOf P u) (capOf P u) (verticesOf u - 1) (front-long P u two)
 
-  pub start-is : vecAt (o .normals) (startCentre o k) ≡ startOf P u
+  pub start-is : vecAt (o .normals) (startCap o k) ≡ startOf P u
   start-is =
       let two = S .two in
-      let at : startCentre o k ≡ v + 8 = omega (arith, first-is P u k v t o S) in
+      let at : startCap o k ≡ v + 8 = omega (arith, first-is P u k v t o S) in
       ap (vecAt (o .normals)) at
       ∙ vec-part (o .normals) (tubeNormals P u) v (verticesOf u) 8 (S .normals .there) (omega arith)
       ∙ ap (λ (l : List Float). vecAt l 8) (normals-are P u) ∙ start-in P u (capOf P u)
@@ -127,12 +127,12 @@ module _ (s : List ℕ) (b b' : Buffers) (c : Counts) (k : ℕ) (B : Builds s b 
     stands : TubeStands (proteinIn s) u k (vertexSum (take k (tubesIn s))) (triangleSum (take k (tubesIn s))) (b' .outs)
     stands = calls.stands s b b' c k u B at
 
-    pub chord-taken : (v : Vec3) → directionOf (lastChord (proteinIn s) u) ≡ Along v → (vecAt (b' .outs .normals) (endCentre (b' .outs) k) ≡ v) × (normalised (lastChord (proteinIn s) u) ≡ v)
+    pub chord-taken : (v : Vec3) → directionOf (lastChord (proteinIn s) u) ≡ Along v → (vecAt (b' .outs .normals) (endCap (b' .outs) k) ≡ v) × (normalised (lastChord (proteinIn s) u) ≡ v)
     chord-taken v e =
         let r = chord-kept (pointsIn (proteinIn s) u) (guidesIn (proteinIn s) u) (sizeOf u) v e in
         (cap-is (proteinIn s) u k _ _ (b' .outs) stands ∙ r .0, r .1)
 
-    pub tangent : directionOf (lastChord (proteinIn s) u) ≡ Nowhere → vecAt (b' .outs .normals) (endCentre (b' .outs) k) ≡ lastTangent (proteinIn s) u
+    pub tangent : directionOf (lastChord (proteinIn s) u) ≡ Nowhere → vecAt (b' .outs .normals) (endCap (b' .outs) k) ≡ lastTangent (proteinIn s) u
     tangent e = cap-is (proteinIn s) u k _ _ (b' .outs) stands ∙ tangent-taken (pointsIn (proteinIn s) u) (guidesIn (proteinIn s) u) (sizeOf u) e
 
     pub others : (length (rustNormals (proteinIn s) u) ≡ 3 * verticesOf u)
@@ -149,7 +149,7 @@ module _ (s : List ℕ) (b b' : Buffers) (c : Counts) (k : ℕ) (B : Builds s b 
     pub same-points : vecAt (pointsIn (proteinIn s) u) (sizeOf u - 1) ≡ vecAt (pointsIn (proteinIn s) u) (sizeOf u - 2) → directionOf (lastChord (proteinIn s) u) ≡ Nowhere
     same-points e = coincide s (headOf s) (recordsOf s (headOf s)) (accepted s (headOf s) (demands.accepted B .0 .passes)) u (stands .two) e
 
-  pub lit : k < c .tubes → Lit (vecAt (b' .outs .normals) (startCentre (b' .outs) k)) × Lit (vecAt (b' .outs .normals) (endCentre (b' .outs) k))
+  pub lit : k < c .tubes → Lit (vecAt (b' .outs .normals) (startCap (b' .outs) k)) × Lit (vecAt (b' .outs .normals) (endCap (b' .outs) k))
   lit h =
       let t = calls.there s b b' c B k h in
       let S = stands (t .0) (t .1) in

@@ -1,5 +1,5 @@
 -- What the theorems about end caps say (02 §6): of the numbers that stand in the buffers after build, and of the tubes that they are of.
-use Prim.Native.Nat.{ℕ, _+_, _-_, _*_}
+use Prim.Native.Nat.{ℕ, _-_, _*_}
 use mathlib.Core.Bool.{Bool, true, false}
 use mathlib.Core.List.{List}
 use mathlib.Core.Logic.{_⊎_}
@@ -7,6 +7,7 @@ use mathlib.Core.Path.{_≡_}
 use lib.Ieee.{Float, nan, inf, fin, eq}
 use Rattle.vectors.specs.declared.Vec3.{Vec3}
 use Rattle.vectors.specs.Vec.{lit, vecAt, floats, normalised}
+use Rattle.edges.specs.Tube.{startCentre, endCentre}
 use Rattle.curve.specs.Residues.{pointsOf, guidesOf}
 use Rattle.curve.specs.Samples.{frameAt}
 use Rattle.caps.specs.Caps.{chord}
@@ -15,18 +16,16 @@ use Rattle.protein.specs.Protein.{Protein}
 use Rattle.tubes.specs.Tubes.{Tube}
 use Rattle.mesh.specs.Mesh.{sizeOf, kindOf, alphasOf, oxygensOf, spots, airAt}
 use Rattle.buffers.specs.Outs.{Outs}
-use Rattle.promises.specs.Meshes.{verticesFor}
 use Rattle.promises.specs.Boxes.{residuesOf, firstVertex}
 
 -- ---- in the buffers
 
--- 01: 'Vertices: ring, start centre, later rings, end centre': of the 64n-54 vertices of tube k, by its record, the start cap's centre is the one after the eight
--- of the first ring, and the end cap's the last
-abbrev pub startCentre : Outs → ℕ → ℕ
-startCentre o k = firstVertex o k + 8
+-- 01: 'Vertices: ring, start centre, later rings, end centre': the centres of the two caps of tube k, by its record; of n residues there are 8(n-1) later rings
+abbrev pub startCap : Outs → ℕ → ℕ
+startCap o k = startCentre 8 (firstVertex o k)
 
-abbrev pub endCentre : Outs → ℕ → ℕ
-endCentre o k = firstVertex o k + (verticesFor (residuesOf o k) - 1)
+abbrev pub endCap : Outs → ℕ → ℕ
+endCap o k = endCentre 8 (firstVertex o k) (8 * (residuesOf o k - 1))
 
 -- the normal of vertex j
 abbrev pub normalAt : Outs → ℕ → Vec3
