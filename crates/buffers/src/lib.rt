@@ -3,7 +3,7 @@ ghost use Rattle.std.specs.Prelude.{◌≡◌};
 ghost use Rattle.buffers.specs.Outs.{sizes, tight};
 
 // K, V and T.
-#[derive(Drop)]
+#[derive(Clone, Copy)]
 pub struct Counts {
     pub tubes: usize,
     pub vertices: usize,

@@ -4,7 +4,7 @@ pub mod samples;
 
 use vectors::Vec3;
 
-#[derive(Drop)]
+#[derive(Clone, Copy)]
 pub struct Frame {
     pub position: Vec3,
     pub tangent: Vec3,

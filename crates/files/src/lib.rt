@@ -3,7 +3,7 @@
 use libc::{SEEK_CUR, SEEK_END, STDERR_FILENO, STDIN_FILENO};
 
 // How a buffer was filled: whole; the input had ended before it; it ended within it; or a read failed.
-#[derive(Drop)]
+#[derive(Clone, Copy)]
 pub enum Filled {
     Whole,
     Nothing,

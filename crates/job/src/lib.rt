@@ -14,7 +14,7 @@ use protein::Head;
 // The refusals of every call in the order of their numbers, with what each carries: 01's 1 to 11, then those of 02 §1, the reader
 // of PDB files, 12 to 16, of 02 §4, binary STL, 17 to 19, and of 02 §5, shares, 20. `number_of` and `carried` of specs/Refusals set
 // out the tables.
-#[derive(Drop)]
+#[derive(Clone, Copy)]
 pub enum Refusal {
     BadLength,
     BadVersion(u8),

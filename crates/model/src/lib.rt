@@ -24,7 +24,7 @@ pub enum Made {
 
 // What is asked for: where the file goes, the scale in thousandths of a millimetre for an angstrom and as the factor that it is, and whether the caller has more
 // room.
-#[derive(Drop)]
+#[derive(Clone, Copy)]
 pub struct Wish {
     pub to: i32,
     pub thousandths: u32,

@@ -18,7 +18,7 @@ pub enum Found {
     Serial(u64),
 }
 
-#[derive(Drop)]
+#[derive(Clone, Copy)]
 pub enum Fault {
     Clean,
     LineShort(usize),

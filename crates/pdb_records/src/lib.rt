@@ -5,7 +5,7 @@ ghost use Rattle.pdb_records.specs.Records.{line_kind, role_of, serial_of, resid
 
 use pdb_fields::Number;
 
-#[derive(Drop)]
+#[derive(Clone, Copy)]
 pub enum Kind {
     Atom,
     Helix,
@@ -21,7 +21,7 @@ pub enum Field {
     Right(u64),
 }
 
-#[derive(Drop)]
+#[derive(Clone, Copy)]
 pub struct AtomLine {
     pub serial: u64,
     pub role: u8,
@@ -32,14 +32,14 @@ pub struct AtomLine {
     pub z: u64,
 }
 
-#[derive(Drop)]
+#[derive(Clone, Copy)]
 pub struct SegmentLine {
     pub kind: u8,
     pub start: u64,
     pub end: u64,
 }
 
-#[derive(Drop)]
+#[derive(Clone, Copy)]
 pub enum Record {
     Skipped,
     Short,

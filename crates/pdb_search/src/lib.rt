@@ -11,7 +11,7 @@ use pdb_records::{Kind, Record};
 
 // Which lines: MODEL lines, END lines, ATOM lines and the items of an mmCIF file, in the whole file; of the lines that are read, C-alphas in ATOM and in HETATM lines, and
 // lines that begin as a record does and are none.
-#[derive(Drop)]
+#[derive(Clone, Copy)]
 pub enum What {
     Models,
     Ends,

@@ -10,7 +10,7 @@ use pdb_file::{Fault, Next};
 use pdb_records::{AtomLine, Record};
 
 // How many atoms, residues and chains. `more`: a residue came that the tables have no place for, and nothing is counted from its first atom on.
-#[derive(Drop)]
+#[derive(Clone, Copy)]
 pub struct FileCounts {
     pub atoms: usize,
     pub residues: usize,

@@ -7,7 +7,7 @@ ghost use Rattle.protein.specs.Places.{place_of, far};
 use vectors::Vec3;
 
 // The counts of a job: chains C, residues R, segments S, atoms A.
-#[derive(Drop)]
+#[derive(Clone, Copy)]
 pub struct Head {
     pub chains: u16,
     pub residues: u16,

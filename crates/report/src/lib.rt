@@ -9,7 +9,7 @@ use libc::STDERR_FILENO;
 use protein::Head;
 
 // The sides of a model, in angstrom.
-#[derive(Drop)]
+#[derive(Clone, Copy)]
 pub struct Sides {
     pub x: f32,
     pub y: f32,

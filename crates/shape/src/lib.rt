@@ -5,7 +5,7 @@ pub mod spline;
 
 use vectors::Vec3;
 
-#[derive(Drop)]
+#[derive(Clone, Copy)]
 pub enum Kind {
     Coil,
     Helix,
@@ -19,14 +19,14 @@ pub enum Oxygen {
 }
 
 // Half-sizes along the binormal and the guide.
-#[derive(Drop)]
+#[derive(Clone, Copy)]
 pub struct Profile {
     pub half_width: f32,
     pub half_height: f32,
 }
 
 // What one angle of a ring takes from a profile alone, so that a tube computes it once.
-#[derive(Drop)]
+#[derive(Clone, Copy)]
 pub struct Spoke {
     pub width: f32,
     pub height: f32,

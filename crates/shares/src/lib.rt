@@ -5,14 +5,14 @@ ghost use Rattle.buffers.specs.Outs.{sizes};
 ghost use Rattle.shares.specs.Shares.{leaves, meets, bad_share, bad_shares};
 
 // A part of a buffer: where it starts, and how many places it has.
-#[derive(Drop)]
+#[derive(Clone, Copy)]
 pub struct Share {
     pub start: usize,
     pub len: usize,
 }
 
 // A party's share of every output buffer.
-#[derive(Drop)]
+#[derive(Clone, Copy)]
 pub struct Shares {
     pub positions: Share,
     pub normals: Share,

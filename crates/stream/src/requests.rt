@@ -3,7 +3,7 @@ ghost use Rattle.std.specs.Prelude.{◌≡◌, true, ◌≤◌, ◌<◌, length}
 ghost use Rattle.stream.specs.Requests.{request_of, SmallLengths, Within, party, known, Serves, mesh_places, stl_lent, ServesMesh};
 
 // How many places are lent of each buffer.
-#[derive(Drop)]
+#[derive(Clone, Copy)]
 pub struct Lengths {
     pub positions: usize,
     pub normals: usize,
@@ -15,7 +15,7 @@ pub struct Lengths {
     pub floats: usize,
 }
 
-#[derive(Drop)]
+#[derive(Clone, Copy)]
 pub struct Request {
     pub call: u8,
     pub lent: Lengths,

@@ -4,7 +4,7 @@ ghost use Rattle.stream.specs.Sinks.{SinkReady};
 
 use numbers::words::{put_bytes, put_floats, put_words};
 
-#[derive(Drop)]
+#[derive(Clone, Copy)]
 pub enum Mode {
     Write,
     Compare,
@@ -12,7 +12,7 @@ pub enum Mode {
 
 // Answers are written to a file, or held against what is read from it. The first at bytes of the block wait to be handed on;
 // good says that every block so far was written whole, or was as recorded.
-#[derive(Drop)]
+#[derive(Clone, Copy)]
 pub struct Sink {
     pub mode: Mode,
     pub file: i32,

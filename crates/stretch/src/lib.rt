@@ -8,14 +8,14 @@ ghost use Rattle.stretch.specs.Stretch.{Run, Orders, range, inside, ranged, Spli
 use protein::Head;
 
 // Serial numbers from start to stop, both included.
-#[derive(Drop)]
+#[derive(Clone, Copy)]
 pub struct Range {
     pub start: usize,
     pub stop: usize,
 }
 
 // Atoms or residues from the first number up to, and without, the second.
-#[derive(Drop)]
+#[derive(Clone, Copy)]
 pub struct Part {
     pub from: usize,
     pub to: usize,
@@ -50,7 +50,7 @@ fn is_within(g: Range, v: usize) -> bool
 }
 
 // Where serials go down: they ascend up to, and without, the first of these atoms, and anew from there up to the second.
-#[derive(Drop)]
+#[derive(Clone, Copy)]
 pub struct Order {
     pub first: usize,
     pub second: usize,

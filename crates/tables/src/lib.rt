@@ -12,7 +12,7 @@ use protein::Head;
 use stretch::{Part, Range};
 
 // Which atoms a table asks for.
-#[derive(Drop)]
+#[derive(Clone, Copy)]
 pub enum Want {
     Chain,
     Alpha,
@@ -21,7 +21,7 @@ pub enum Want {
 }
 
 // Which of the atoms asked for: the first of a residue, or the last.
-#[derive(Drop)]
+#[derive(Clone, Copy)]
 pub enum Which {
     First,
     Last,

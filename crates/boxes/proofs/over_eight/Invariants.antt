@@ -1,0 +1,16 @@
+use borrow.Author.Rules.{rules}
+use mathlib.Core.Path.{◌≡◌, refl}
+use Prim.Native.Nat.{ℕ, ◌≤◌, ◌-◌}
+use native.Mathlib.Omega.{arith}
+use lib.ListN.{get_or}
+use Rattle.lists.specs.Put.{upto}
+use Rattle.vectors.specs.Vec.{floats, vpast, eight}
+use Rattle.boxes.specs.Bounds.{grown_by}
+use Rattle.boxes.proofs.Laws.{grown_none, grown_turn}
+use Rattle.boxes.proofs.over_eight.Given as goal
+
+abbrev pub invariant-loop-k : goal.invariant-loop-k
+invariant-loop-k l = (l.bounds ≡ grown_by l.initial.bounds (upto (λ (j : ℕ). floats (get_or l.ps j vpast)) l.k)) × (l.k ≤ 8)
+
+abbrev pub decreases-loop-k : goal.decreases-loop-k
+decreases-loop-k l = 8 - l.k

@@ -1,0 +1,7 @@
+use Rattle.boxes.proofs.upper.Goals as goal
+
+pub returns-then-a-b : goal.returns-then-a-b
+returns-then-a-b c = rw c.if-a-b.true
+
+pub returns : goal.returns
+returns c = rw c.if-a-b.false

@@ -1,0 +1,14 @@
+use Prim.Native.Nat.{◌≤◌, ◌-◌, ◌+◌}
+use mathlib.Core.Path.{◌≡◌}
+use lib.ListN.{get_or}
+use native.Mathlib.Omega.{arith}
+use borrow.Author.Rules.{rules}
+use Rattle.scratch.proofs.Laws.{copy_turn, fill_empty}
+use Rattle.scratch.specs.Scratch.{Filled}
+use Rattle.coils.proofs.copy.Given as goal
+
+abbrev pub invariant-loop-i : goal.invariant-loop-i
+invariant-loop-i l = (l.i ≤ l.n) × Filled (λ k. get_or l.initial.t (l.from + k) 0) l.to l.i l.initial.t l.t
+
+abbrev pub decreases-loop-i : goal.decreases-loop-i
+decreases-loop-i l = l.n - l.i

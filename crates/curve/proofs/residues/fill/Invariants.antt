@@ -1,0 +1,16 @@
+use borrow.Author.Rules.{rules}
+use mathlib.Core.Path.{◌≡◌, refl}
+use Prim.Native.Nat.{ℕ, ◌-◌, ◌≤◌}
+use native.Mathlib.Omega.{arith}
+use Rattle.lists.specs.Put.{put, upto}
+use Rattle.lists.proofs.Puts.{turn, kept}
+use Rattle.vectors.specs.Vec.{floats_of}
+use Rattle.curve.specs.Residues.{same}
+use Rattle.vectors.proofs.Flat.{vec_whole}
+use Rattle.curve.proofs.residues.fill.Given as goal
+
+abbrev pub invariant-loop-i : goal.invariant-loop-i
+invariant-loop-i l = (l.i ≤ l.n) × (l.g ≡ put l.initial.g 0 (floats_of (λ (j : ℕ). l.v) l.i))
+
+abbrev pub decreases-loop-i : goal.decreases-loop-i
+decreases-loop-i l = l.n - l.i

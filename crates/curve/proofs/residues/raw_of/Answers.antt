@@ -1,0 +1,7 @@
+use Rattle.curve.specs.Residues.{raw_at}
+use borrow.Author.Rules.{rules}
+use Rattle.curve.proofs.residues.raw_of.Goals as goal
+
+pub returns : goal.returns
+unfolding raw_at
+returns c = cc

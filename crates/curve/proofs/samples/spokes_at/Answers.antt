@@ -1,0 +1,10 @@
+use Rattle.shape.specs.Ring.{profile_of}
+use borrow.Author.Rules.{rules}
+use Rattle.curve.proofs.samples.spokes_at.Goals as goal
+
+pub returns-then-in_arrow : goal.returns-then-in_arrow
+returns-then-in_arrow c = rw (c.spokes.ensures, c.profile.ensures, c.param_at.ensures, c.span_at-i.ensures.0)
+
+pub returns : goal.returns
+unfolding profile_of
+returns c = rw (← c.span_at-i.ensures.0, ← c.in_arrow.ensures, c.if-in_arrow.false) c.requires.3

@@ -1,0 +1,17 @@
+use Prim.Native.Nat.{ℕ, ◌≤◌, ◌-◌}
+use mathlib.Core.Path.{◌≡◌, refl}
+use lib.ListN.{length, get_or}
+use native.Mathlib.Omega.{arith}
+use borrow.Author.Rules.{rules}
+use Rattle.lists.specs.Put.{put, upto}
+use Rattle.lists.proofs.Puts.{kept, turn}
+use Rattle.protein.specs.Places.{place_of}
+use Rattle.vectors.specs.Vec.{floats, floats_of}
+use Rattle.mesh.specs.Mesh.{spot_of, spots}
+use Rattle.mesh.proofs.load.Given as goal
+
+abbrev pub invariant-loop-i : goal.invariant-loop-i
+invariant-loop-i l = (l.i ≤ l.n) × (l.course ≡ put l.initial.course l.at (floats_of (λ (k : ℕ). spot_of (place_of l.b l.h) (get_or l.atoms k 0)) l.i))
+
+abbrev pub decreases-loop-i : goal.decreases-loop-i
+decreases-loop-i l = l.n - l.i

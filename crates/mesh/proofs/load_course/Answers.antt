@@ -1,0 +1,6 @@
+use Rattle.mesh.proofs.Laws.{course_is}
+use borrow.Author.Rules.{rules}
+use Rattle.mesh.proofs.load_course.Goals as goal
+
+pub returns : goal.returns
+returns c = course_is _ _ _ _ _ _ c.requires.1.1 c.requires.1.2 c.load.ensures c.load-2.ensures

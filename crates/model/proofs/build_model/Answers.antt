@@ -1,0 +1,7 @@
+use native.Mathlib.Omega.{arith}
+use Rattle.model.proofs.Laws.{mesh_ready}
+use borrow.Author.Rules.{rules}
+use Rattle.model.proofs.build_model.Goals as goal
+
+pub finish-requires : goal.finish-requires
+finish-requires c = (mesh_ready c.build-a.ensures c.a-in-Mesh-1.given.1, omega arith)

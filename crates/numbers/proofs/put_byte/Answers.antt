@@ -1,0 +1,6 @@
+use Rattle.lists.proofs.Puts.{put1}
+use borrow.Author.Rules.{rules}
+use Rattle.numbers.proofs.put_byte.Goals as goal
+
+pub returns : goal.returns
+returns c = put1 _ _ _

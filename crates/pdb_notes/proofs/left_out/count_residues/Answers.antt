@@ -1,0 +1,14 @@
+use Prim.Native.Nat.{ℕ}
+use lib.ListN.{length-replicate}
+use Rattle.appearance.proofs.Holding.{empty_index, holding_none}
+use Rattle.pdb_notes.proofs.Gathering.{both_counted}
+use Rattle.pdb_notes.proofs.left_out.count_residues.Goals as goal
+
+pub gather-modelled-requires : goal.gather-modelled-requires
+gather-modelled-requires c = empty_index _ (length-replicate {A = ℕ} 16384 0)
+
+pub gather-resolved-requires : goal.gather-resolved-requires
+gather-resolved-requires c = c.gather-modelled.ensures.1.0
+
+pub returns : goal.returns
+returns c = (λ h. both_counted _ _ _ _ _ _ _ _ _ _ (holding_none _ (length-replicate {A = ℕ} 16384 0)) c.gather-modelled.ensures.0 c.gather-resolved.ensures.0 c.gather-resolved.ensures.1.1 h, c.gather-resolved.ensures.1.1)

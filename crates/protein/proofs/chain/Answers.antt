@@ -1,0 +1,6 @@
+use native.Mathlib.Omega.{arith}
+use borrow.Author.Rules.{rules}
+use Rattle.protein.proofs.chain.Goals as goal
+
+pub returns : goal.returns
+returns c = (cc, omega arith)

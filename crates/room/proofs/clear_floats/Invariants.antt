@@ -1,0 +1,14 @@
+use Prim.Native.Nat.{◌≤◌, ◌-◌}
+use mathlib.Core.Path.{◌≡◌, refl}
+use lib.Ieee.{binary32, of_bits}
+use native.Mathlib.Omega.{arith}
+use borrow.Author.Rules.{rules}
+use Rattle.room.specs.Room.{zeroed}
+use Rattle.room.proofs.Laws.{zeroed_turn, zeroed_length}
+use Rattle.room.proofs.clear_floats.Given as goal
+
+abbrev pub invariant-loop-i : goal.invariant-loop-i
+invariant-loop-i l = (l.i ≤ l.n) × (l.f ≡ zeroed (of_bits binary32 0) l.i l.initial.f)
+
+abbrev pub decreases-loop-i : goal.decreases-loop-i
+decreases-loop-i l = l.n - l.i

@@ -1,0 +1,18 @@
+use Prim.Native.Nat.{◌≤◌, ◌-◌, ◌+◌}
+use mathlib.Core.Bool.{cond}
+use mathlib.Core.Path.{◌≡◌}
+use mathlib.Core.Logic.{⊎_elim}
+use lib.ListN.{get_or}
+use native.Mathlib.Omega.{arith}
+use borrow.Author.Rules.{rules}
+use Rattle.segments.proofs.Laws.{cover_yes, cover_no}
+use Rattle.scratch.proofs.Laws.{fill_empty}
+use Rattle.scratch.specs.Scratch.{Filled}
+use Rattle.tubes.specs.Tubes.{given}
+use Rattle.segments.proofs.cover.Given as goal
+
+abbrev pub invariant-loop-i : goal.invariant-loop-i
+invariant-loop-i l = (l.i ≤ l.n) × Filled (λ r. cond (given (get_or l.initial.t (l.from + r) 0)) 1 (get_or l.initial.t (l.base + r) 0)) l.base l.i l.initial.t l.t
+
+abbrev pub decreases-loop-i : goal.decreases-loop-i
+decreases-loop-i l = l.n - l.i

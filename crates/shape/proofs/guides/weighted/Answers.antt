@@ -1,0 +1,7 @@
+use Rattle.shape.specs.Guide.{weighted}
+use borrow.Author.Rules.{rules}
+use Rattle.shape.proofs.guides.weighted.Goals as goal
+
+pub returns : goal.returns
+unfolding weighted
+returns c = cc

@@ -1,0 +1,7 @@
+use Rattle.shape.specs.Ring.{arrow}
+use borrow.Author.Rules.{rules}
+use Rattle.shape.proofs.section.arrow.Goals as goal
+
+pub returns : goal.returns
+unfolding arrow
+returns c = cc

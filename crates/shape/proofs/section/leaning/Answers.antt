@@ -1,0 +1,5 @@
+use borrow.Author.Rules.{rules}
+use Rattle.shape.proofs.section.leaning.Goals as goal
+
+pub returns : goal.returns
+returns c = cc

@@ -1,0 +1,7 @@
+use Rattle.shape.specs.Ring.{point_on}
+use borrow.Author.Rules.{rules}
+use Rattle.shape.proofs.section.point_on.Goals as goal
+
+pub returns : goal.returns
+unfolding point_on
+returns c = cc

@@ -1,0 +1,22 @@
+use borrow.Author.Rules.{rules}
+use mathlib.Core.Path.{◌≡◌, refl}
+use mathlib.Core.List.{[], ◌∷◌}
+use Prim.Native.Nat.{ℕ, ◌≤◌, ◌-◌}
+use native.Mathlib.Omega.{arith}
+use Rattle.lists.specs.Put.{put, upto}
+use Rattle.lists.proofs.Puts.{set_turn}
+use Rattle.shape.specs.Ring.{spoke_at, spokes_of}
+use Rattle.shape.proofs.section.spokes.Goals as goal
+
+pub loop-k-init : goal.loop-k-init
+unfolding put upto
+loop-k-init c = (omega arith, refl)
+
+pub loop-k-preserved : goal.loop-k-preserved
+loop-k-preserved c = let k = c.loop-k.k in
+    (omega arith, set_turn _ _ 0 k k c.loop-k.invariant.1 c.spoke.ensures (omega arith))
+
+pub returns : goal.returns
+unfolding spokes_of put upto
+returns c = let e : c.loop-k.k ≡ 8 = omega arith in
+    rw (c.loop-k.invariant.1, e)

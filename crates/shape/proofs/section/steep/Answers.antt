@@ -1,0 +1,7 @@
+use Rattle.shape.specs.Ring.{steep}
+use borrow.Author.Rules.{rules}
+use Rattle.shape.proofs.section.steep.Goals as goal
+
+pub returns : goal.returns
+unfolding steep
+returns c = cc

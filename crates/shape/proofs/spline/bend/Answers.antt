@@ -1,0 +1,7 @@
+use Rattle.shape.specs.Spline.{bend}
+use borrow.Author.Rules.{rules}
+use Rattle.shape.proofs.spline.bend.Goals as goal
+
+pub returns : goal.returns
+unfolding bend
+returns c = cc

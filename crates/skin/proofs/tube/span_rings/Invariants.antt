@@ -1,0 +1,19 @@
+use borrow.Author.Rules.{rules}
+use mathlib.Core.Path.{◌≡◌}
+use Prim.Native.Nat.{ℕ, ◌≤◌, ◌-◌, ◌+◌, ◌*◌}
+use native.Mathlib.Omega.{arith}
+use Rattle.lists.specs.Put.{upto}
+use Rattle.lists.proofs.Puts.{kept}
+use Rattle.shape.specs.Ring.{cross_section}
+use Rattle.curve.specs.Samples.{ring_at}
+use Rattle.rings.specs.Post.{Wrote}
+use Rattle.rings.proofs.Laws.{wrote_none, wrote_turn, room}
+use Rattle.skin.specs.Tube.{ring_positions, ring_normals, ring_tags}
+use Rattle.skin.proofs.Laws.{on_span, length_positions, length_normals, length_tags}
+use Rattle.skin.proofs.tube.span_rings.Given as goal
+
+abbrev pub invariant-loop-j : goal.invariant-loop-j
+invariant-loop-j l = (l.j ≤ l.count) × (l.at ≡ l.v + l.j * 8) × Wrote l.initial.bounds l.initial.positions l.initial.normals l.initial.tags l.v (upto (λ (l.j : ℕ). ring_positions l.kind l.points l.guides l.n (l.from + l.j)) l.j) (upto (λ (l.j : ℕ). ring_normals l.kind l.points l.guides l.n (l.from + l.j)) l.j) (upto (λ (l.j : ℕ). ring_tags l.first l.n (l.from + l.j)) l.j) l.bounds l.positions l.normals l.tags
+
+abbrev pub decreases-loop-j : goal.decreases-loop-j
+decreases-loop-j l = l.count - l.j

@@ -1,0 +1,20 @@
+use mathlib.Core.Path.{sym, ap, ◌∙◌}
+use Rattle.shape.specs.Ring.{spokes_of}
+use Rattle.skin.proofs.Laws.{length_front, laid, covered}
+use borrow.Author.Rules.{rules}
+use Rattle.skin.proofs.tube.tube_vertices.Goals as goal
+
+pub slice_bounds-skin-end : goal.slice_bounds-skin-end
+slice_bounds-skin-end c =
+    let args = c.args in
+    sym (length_front args.kind args.flags.now args.course.now args.n args.first c.requires.0 c.lay_course.ensures)
+
+pub skin-requires : goal.skin-requires
+skin-requires c =
+    let args = c.args in
+    (laid args.kind args.flags.now args.course.now args.n args.first c.requires.0 c.lay_course.ensures (c.spokes-spokes.ensures ∙ ap spokes_of c.half_sizes.ensures), c.requires.1)
+
+pub returns : goal.returns
+returns c =
+    let args = c.args in
+    (covered args.kind args.flags.now args.course.now args.n args.first c.requires.0 c.lay_course.ensures c.skin.ensures, c.lay_course.ensures)

@@ -1,0 +1,9 @@
+use borrow.Author.Tests.{lt-ltb, le-ltb}
+use borrow.Author.Rules.{rules}
+use Rattle.smooth.proofs.after.Goals as goal
+
+pub returns-then-i-n : goal.returns-then-i-n
+returns-then-i-n c = (rw (lt-ltb _ _ c.if-i-n.true), search rules)
+
+pub returns : goal.returns
+returns c = (rw (le-ltb _ _ c.if-i-n.false), search rules)

@@ -1,0 +1,62 @@
+use mathlib.Core.Path.{◌≡◌, refl, ◌∙◌}
+use Prim.Native.Nat.{◌+◌, ◌*◌, ◌-◌, ◌≤◌}
+use native.Mathlib.Omega.{arith}
+use Rattle.lists.specs.Put.{put, upto}
+use Rattle.lists.proofs.Puts.{next, turn, kept}
+use Rattle.edges.specs.Tube.{band_side, band}
+use Rattle.edges.specs.Tube as tube
+use Rattle.stitch.proofs.append_ring_and_stitch.Goals as goal
+
+-- Assumes nothing.
+
+pub loop-k-init : goal.loop-k-init
+unfolding put upto
+loop-k-init c = (omega arith, omega arith, refl)
+
+pub overflow_add-k1 : goal.overflow_add-k1
+overflow_add-k1 c = omega arith
+
+pub overflow_add-a0 : goal.overflow_add-a0
+overflow_add-a0 c = omega arith
+
+pub overflow_add-a1 : goal.overflow_add-a1
+overflow_add-a1 c = omega arith
+
+pub overflow_add-b0 : goal.overflow_add-b0
+overflow_add-b0 c = omega arith
+
+pub overflow_add-b1 : goal.overflow_add-b1
+overflow_add-b1 c = omega arith
+
+pub put_corners-requires : goal.put_corners-requires
+put_corners-requires c = omega (arith, kept _ _ _ c.loop-k.invariant.2)
+
+pub overflow_add-place : goal.overflow_add-place
+overflow_add-place c = omega (arith, kept _ _ _ c.loop-k.invariant.2)
+
+pub put_corners-requires-in-loop-k : goal.put_corners-requires-in-loop-k
+put_corners-requires-in-loop-k c = omega (arith, kept _ _ _ c.put_corners.ensures, kept _ _ _ c.loop-k.invariant.2)
+
+pub overflow_add-place-in-loop-k : goal.overflow_add-place-in-loop-k
+overflow_add-place-in-loop-k c = omega (arith, kept _ _ _ c.loop-k.invariant.2)
+
+pub overflow_add-k : goal.overflow_add-k
+overflow_add-k c = omega arith
+
+pub loop-k-smaller : goal.loop-k-smaller
+loop-k-smaller c = omega arith
+
+pub loop-k-preserved : goal.loop-k-preserved
+unfolding tube.next
+loop-k-preserved c = let loop = c.loop-k in
+    let args = c.args in
+    let side = next _ _ loop.place _ _ _ c.put_corners-in-loop-k.ensures c.put_corners.ensures refl in
+    (omega arith, omega arith, turn (band_side 8 args.a args.b) 6 (λ k. refl) _ _ _ loop.k side loop.invariant.2 loop.invariant.1)
+
+pub shape_of-triangles : goal.shape_of-triangles
+shape_of-triangles c = kept _ _ _ c.loop-k.invariant.2
+
+pub returns : goal.returns
+unfolding band
+returns c = let e : c.loop-k.k ≡ 8 = omega arith in
+    c.loop-k.invariant.2 ∙ rw e

@@ -1,0 +1,19 @@
+use mathlib.Core.Path.{◌≡◌, refl, sym, ap, ap₂, ◌∙◌}
+use Prim.Native.Nat.{suc, ◌+◌, ◌*◌, ◌-◌, ◌≤◌}
+use native.Mathlib.Numerals.{add-one}
+use native.Mathlib.Omega.{arith}
+use borrow.Author.Rules.{rules}
+use Rattle.lists.specs.Put.{put, upto}
+use Rattle.lists.proofs.Puts.{turn, kept}
+use Rattle.edges.specs.Tube.{ring, band, band_at}
+use Rattle.edges.proofs.Theorems.{vertex_count_lem, triangle_count_lem}
+use Rattle.edges.proofs.Stack.{band_size}
+use Rattle.stitch.proofs.Assembly.{assembled}
+use Rattle.stitch.proofs.tube_triangles.Given as goal
+
+abbrev pub invariant-loop-j : goal.invariant-loop-j
+invariant-loop-j l = (l.j ≤ l.bands) × (l.place ≡ l.at + 24 + l.j * 48) × (l.a ≡ ring 8 l.first l.j) × (l.b ≡ ring 8 l.first (suc l.j)) × (l.a + 8 ≤ l.b) × (l.b ≡ l.first + (8 * l.j + 9))
+    × (l.triangles ≡ put l.initial.triangles (l.at + 24) (upto (band_at 8 l.first) l.j))
+
+abbrev pub decreases-loop-j : goal.decreases-loop-j
+decreases-loop-j l = l.bands - l.j

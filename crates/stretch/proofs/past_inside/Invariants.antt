@@ -1,0 +1,14 @@
+use Prim.Native.Nat.{◌≤◌, ◌-◌}
+use mathlib.Core.Path.{sym, ap, ◌∙◌}
+use native.Mathlib.Omega.{arith}
+use borrow.Author.Rules.{rules}
+use Rattle.protein.specs.Job.{job_of}
+use Rattle.stretch.specs.Stretch.{inside, Outside}
+use Rattle.stretch.proofs.Laws.{inside_none, serial_few, outside_less}
+use Rattle.stretch.proofs.past_inside.Given as goal
+
+abbrev pub invariant-loop-a : goal.invariant-loop-a
+invariant-loop-a l = (l.from ≤ l.a) × (l.a ≤ l.h.atoms) × Outside (job_of l.b l.h) l.g l.a l.h.atoms
+
+abbrev pub decreases-loop-a : goal.decreases-loop-a
+decreases-loop-a l = l.a

@@ -1,0 +1,16 @@
+use borrow.Author.Rules.{rules}
+use Prim.Native.Nat.{◌≤◌, ◌-◌, ◌+◌}
+use mathlib.Core.Path.{◌≡◌}
+use native.Mathlib.Omega.{arith}
+use Rattle.tables.specs.Wants.{gives, found}
+use Rattle.protein.specs.Job.{job_of}
+use Rattle.scratch.specs.Scratch.{Filled}
+use Rattle.scratch.proofs.Laws.{fill_all, fill_again}
+use Rattle.tables.proofs.Laws.{fill_begins}
+use Rattle.tables.proofs.fill.Given as goal
+
+abbrev pub invariant-loop-a : goal.invariant-loop-a
+invariant-loop-a l = (l.a ≤ l.h.atoms) × Filled (λ r. found l.which (gives (job_of l.b l.h) l.w (0 + r)) l.a) (l.base + 0) (l.h.residues - 0) l.initial.t l.t
+
+abbrev pub decreases-loop-a : goal.decreases-loop-a
+decreases-loop-a l = l.n - l.a

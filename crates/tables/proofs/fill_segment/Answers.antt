@@ -1,0 +1,58 @@
+use borrow.Author.Rules.{rules}
+use Prim.Native.Nat.{◌≤◌, ◌<◌, ◌-◌}
+use mathlib.Core.Path.{◌≡◌}
+use mathlib.Core.Bool.{true}
+use native.Mathlib.Omega.{arith}
+use Rattle.protein.specs.Job.{job_of}
+use Rattle.stretch.specs.Stretch.{ranged}
+use Rattle.tables.specs.Table.{Filling}
+use Rattle.tables.proofs.Parts.{filling_start, filling_now, filling_turn, filling_end, narrowed_seen, narrowed_none}
+use Rattle.tables.proofs.fill_segment.Goals as goal
+
+pub first_inside-a-requires : goal.first_inside-a-requires
+first_inside-a-requires c = let pre = c.requires in (pre.0.0, pre.1.0.to, pre.0.5)
+
+pub loop-a-init : goal.loop-a-init
+loop-a-init c =
+    let args = c.args in
+    let pre = c.requires in
+    let I = c.first_inside-a.ensures in
+    (I.0, I.3, filling_start (job_of args.b.now args.h) args.g args.full args.residues args.alphas args.oxygens args.atoms _ _ pre.1.0 I.2 pre.0.3 pre.1.2)
+
+pub note_inside-seen-requires : goal.note_inside-seen-requires
+note_inside-seen-requires c =
+    let pre = c.requires in
+    let I = c.loop-a.invariant in
+    ((pre.0.0, omega (arith, pre.1.0.to), pre.0.1, omega (arith, pre.0.2, I.2.noted.size), pre.0.4), ((I.1 (omega arith), pre.1.1), filling_now _ _ _ _ _ _ _ _ _ _ I.2))
+
+pub first_inside-a-requires-in-loop-a : goal.first_inside-a-requires-in-loop-a
+first_inside-a-requires-in-loop-a c = let pre = c.requires in (pre.0.0, pre.1.0.to, pre.0.5)
+
+pub loop-a-smaller : goal.loop-a-smaller
+loop-a-smaller c = let z = c.first_inside-a-in-loop-a.ensures.1 (omega arith) in omega (arith, z, c.first_inside-a-in-loop-a.ensures.0)
+
+pub loop-a-preserved : goal.loop-a-preserved
+loop-a-preserved c =
+    let args = c.args in
+    let I = c.first_inside-a-in-loop-a.ensures in
+    (I.0, I.3, filling_turn (job_of args.b.now args.h) args.g args.full args.residues args.alphas args.oxygens _ _ _ _ _ _ _ (I.1 (omega arith)) I.2 c.loop-a.invariant.2 c.note_inside-seen.ensures)
+
+pub shape_of-t-then-seen : goal.shape_of-t-then-seen
+shape_of-t-then-seen c = c.loop-a.invariant.2.noted.size
+
+pub returns-then-seen : goal.returns-then-seen
+returns-then-seen c =
+    let args = c.args in
+    let R = c.requires.1.0 in
+    let F = filling_end (job_of args.b.now args.h) args.g args.full args.residues args.alphas args.oxygens args.atoms _ _ _ _ R (omega arith) (omega (arith, R.to, c.loop-a.invariant.0)) c.loop-a.invariant.2 in
+    (F.noted, narrowed_none _ _ _ _ _ _ _ _ _ F (omega arith))
+
+pub shape_of-t : goal.shape_of-t
+shape_of-t c = c.loop-a.invariant.2.noted.size
+
+pub returns : goal.returns
+returns c =
+    let args = c.args in
+    let R = c.requires.1.0 in
+    let F = filling_end (job_of args.b.now args.h) args.g args.full args.residues args.alphas args.oxygens args.atoms _ _ _ _ R (omega arith) (omega (arith, R.to, c.loop-a.invariant.0)) c.loop-a.invariant.2 in
+    (F.noted, narrowed_seen _ _ _ _ _ _ _ _ _ F (omega arith))

@@ -1,0 +1,5 @@
+use borrow.Author.Rules.{rules}
+use Rattle.tables.proofs.has_role.Goals as goal
+
+pub returns : goal.returns
+returns c = cc

@@ -1,0 +1,17 @@
+use Prim.Native.Nat.{◌*◌, ◌≤◌}
+use mathlib.Core.Path.{◌≡◌, refl, sym, ◌∙◌}
+use native.Mathlib.Omega.{arith}
+use Rattle.protein.specs.Job.{job_of, segments_of}
+use Rattle.protein.specs.Places.{place_of, far_by}
+use borrow.Author.Rules.{rules}
+use Rattle.scratch.specs.Scratch.{Kept}
+use Rattle.scratch.proofs.Laws.{kept_refl, kept_then}
+use Rattle.trail.specs.Place.{At, left_at, steps}
+use Rattle.trail.proofs.Places.{finds_here, finds_moved, finds_done, got_as}
+use Rattle.trail.proofs.next_tube.Given as goal
+
+abbrev pub invariant-loop-from : goal.invariant-loop-from
+invariant-loop-from l = At (job_of l.b l.h) (segments_of l.q) l.full l.scratch l.at × Kept (2 * l.h.residues) (8 * l.h.residues) l.initial.scratch l.scratch × (left_at (job_of l.b l.h) (segments_of l.q) (far_by (place_of l.b l.h)) l.initial.scratch l.initial.at ≡ left_at (job_of l.b l.h) (segments_of l.q) (far_by (place_of l.b l.h)) l.scratch l.at) × (steps l.h.residues l.at ≤ steps l.h.residues l.initial.at)
+
+abbrev pub decreases-loop-from : goal.decreases-loop-from
+decreases-loop-from l = steps l.h.residues l.at

@@ -1,0 +1,16 @@
+use Prim.Native.Nat.{◌≤◌, ◌-◌}
+use mathlib.Core.Path.{◌≡◌, refl}
+use mathlib.Core.Logic.{⊎_elim}
+use lib.ListN.{length}
+use native.Mathlib.Omega.{arith}
+use borrow.Author.Rules.{rules}
+use Rattle.tubes.specs.Frames.{chosen}
+use Rattle.tubes.specs.Lists.{Listed, marked}
+use Rattle.tubes.proofs.Laws.{frames_yes, frames_no, chosen_nothing, marked_out, listed_none}
+use Rattle.tubes.proofs.list_frames.Given as goal
+
+abbrev pub invariant-loop-k : goal.invariant-loop-k
+invariant-loop-k l = (l.first ≤ l.k) × ((l.k ≤ l.end) × ((l.m ≤ l.k) × ((l.m ≡ length (chosen (marked l.initial.t l.table l.first) l.k)) × Listed (chosen (marked l.initial.t l.table l.first) l.k) l.at l.end l.initial.t l.t)))
+
+abbrev pub decreases-loop-k : goal.decreases-loop-k
+decreases-loop-k l = l.end - l.k

@@ -1,0 +1,7 @@
+use mathlib.Core.Path.{refl}
+use Rattle.vectors.specs.Vec.{vadd}
+use Rattle.vectors.proofs.Vec3.add.Goals as goal
+
+pub returns : goal.returns
+unfolding vadd
+returns c = refl

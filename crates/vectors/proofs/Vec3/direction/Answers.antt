@@ -1,0 +1,7 @@
+use Rattle.vectors.specs.Vec.{direction_of}
+use borrow.Author.Rules.{rules}
+use Rattle.vectors.proofs.Vec3.direction.Goals as goal
+
+pub returns : goal.returns
+unfolding direction_of
+returns c = rw (← c.length.ensures) c.direction_by.ensures

@@ -1,0 +1,7 @@
+use Rattle.vectors.specs.Vec.{vlength}
+use borrow.Author.Rules.{rules}
+use Rattle.vectors.proofs.Vec3.length.Goals as goal
+
+pub returns : goal.returns
+unfolding vlength
+returns c = cc

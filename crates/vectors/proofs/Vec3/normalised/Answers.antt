@@ -1,0 +1,7 @@
+use Rattle.vectors.specs.Vec.{normalised}
+use borrow.Author.Rules.{rules}
+use Rattle.vectors.proofs.Vec3.normalised.Goals as goal
+
+pub returns : goal.returns
+unfolding normalised
+returns c = rw (← c.length.ensures) c.normalised_by.ensures

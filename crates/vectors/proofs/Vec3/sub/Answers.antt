@@ -1,0 +1,7 @@
+use mathlib.Core.Path.{refl}
+use Rattle.vectors.specs.Vec.{vsub}
+use Rattle.vectors.proofs.Vec3.sub.Goals as goal
+
+pub returns : goal.returns
+unfolding vsub
+returns c = refl

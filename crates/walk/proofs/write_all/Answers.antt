@@ -1,0 +1,118 @@
+use Prim.Native.Nat.{◌*◌}
+use mathlib.Core.Bool.{true}
+use mathlib.Core.Path.{◌≡◌, refl, ◌∙◌}
+use native.Mathlib.Omega.{arith}
+use lib.ListN.{length, drop}
+use borrow.Author.Rules.{rules}
+use Rattle.protein.specs.Job.{job_of, segments_of}
+use Rattle.protein.specs.Places.{place_of, far_by}
+use Rattle.tubes.specs.List.{tube_list}
+use Rattle.protein.specs.Protein.{protein_of}
+use Rattle.scratch.specs.Scratch.{Kept}
+use Rattle.scratch.proofs.Laws.{kept_refl, kept_then}
+use Rattle.buffers.specs.Outs.{outs}
+use Rattle.walk.specs.Walk.{all_frames, Left}
+use Rattle.trail.specs.Place.{At, left_at, steps}
+use Rattle.walk.proofs.Laws.{small_way, small_end, left_start, left_counted, left_over, left_room, left_turn}
+use Rattle.trail.proofs.Places.{alphas_under, gives_got, gives_end}
+use Rattle.walk.proofs.Found.{got_long, got_table, got_sited, got_aired}
+use Rattle.walk.proofs.write_all.Goals as goal
+
+pub begin-c-requires : goal.begin-c-requires
+begin-c-requires c = (c.requires.0.0, c.requires.0.1)
+
+pub loop-from-init : goal.loop-from-init
+unfolding tube_list
+loop-from-init c = (c.begin-c.ensures.1, kept_refl _ _ _, (refl, refl), left_start _ _ _ _ _ c.begin-c.ensures.2 c.requires.0.4.twice c.requires.1)
+
+pub next_tube-next-requires : goal.next_tube-next-requires
+next_tube-next-requires c = (c.requires.0.0, c.loop-from.invariant.0, c.requires.0.3)
+
+pub returns-in_default : goal.returns-in_default
+returns-in_default c =
+    let args = c.args in
+    let inv = c.loop-from.invariant in
+    (kept_then _ _ _ _ _ _ _ (omega arith) (omega arith) c.begin-c.ensures.0 (kept_then _ _ _ _ _ _ _ (omega arith) (omega arith) inv.1 c.next_tube-next.ensures.0), (inv.2.1, left_over _ _ _ _ _ _ _ inv.3 (gives_end (job_of args.b.now args.h) (segments_of args.q.now) true (far_by (place_of args.b.now args.h)) _ _ _ _ c.next_tube-next.ensures.1 c.in_default.is)))
+
+pub alphas_at-alphas-requires : goal.alphas_at-alphas-requires
+alphas_at-alphas-requires c = c.requires.0.0.few_residues
+
+pub overflow_add-end : goal.overflow_add-end
+overflow_add-end c =
+    let args = c.args in
+    let G = gives_got (job_of args.b.now args.h) (segments_of args.q.now) (far_by (place_of args.b.now args.h)) _ _ _ _ _ _ _ c.next_tube-next.ensures.1 c.in-Piece.is in
+    omega (arith, alphas_under _ args.h.residues c.in-Piece.d.source c.alphas_at-alphas.ensures, c.requires.0.0.few_residues)
+
+pub offset_bounds-view-from : goal.offset_bounds-view-from
+offset_bounds-view-from c =
+    let args = c.args in
+    let G = gives_got (job_of args.b.now args.h) (segments_of args.q.now) (far_by (place_of args.b.now args.h)) _ _ _ _ _ _ _ c.next_tube-next.ensures.1 c.next-1.given.1 in
+    omega (arith, G.long, G.fits, G.at.stands.size, c.requires.0.0.few_residues)
+
+pub slice_bounds-write_one-count : goal.slice_bounds-write_one-count
+slice_bounds-write_one-count c =
+    let args = c.args in
+    let G = gives_got (job_of args.b.now args.h) (segments_of args.q.now) (far_by (place_of args.b.now args.h)) _ _ _ _ _ _ _ c.next_tube-next.ensures.1 c.next-1.given.1 in
+    omega (arith, G.long)
+
+pub slice_bounds-write_one-start : goal.slice_bounds-write_one-start
+slice_bounds-write_one-start c =
+    let args = c.args in
+    let G = gives_got (job_of args.b.now args.h) (segments_of args.q.now) (far_by (place_of args.b.now args.h)) _ _ _ _ _ _ _ c.next_tube-next.ensures.1 c.next-1.given.1 in
+    omega (arith, G.long, G.fits, G.at.stands.size)
+
+pub slice_bounds-write_one-end : goal.slice_bounds-write_one-end
+slice_bounds-write_one-end c =
+    let args = c.args in
+    let G = gives_got (job_of args.b.now args.h) (segments_of args.q.now) (far_by (place_of args.b.now args.h)) _ _ _ _ _ _ _ c.next_tube-next.ensures.1 c.next-1.given.1 in
+    omega (arith, G.fits, G.at.stands.size)
+
+pub offset_bounds-view-alphas : goal.offset_bounds-view-alphas
+offset_bounds-view-alphas c = omega (arith, alphas_under _ c.args.h.residues c.next-1.given.0.1.1.0.source c.alphas_at-alphas.ensures, c.requires.0.0.few_residues)
+
+pub slice_bounds-write_one-end-in-loop-from : goal.slice_bounds-write_one-end-in-loop-from
+slice_bounds-write_one-end-in-loop-from c =
+    let args = c.args in
+    let G = gives_got (job_of args.b.now args.h) (segments_of args.q.now) (far_by (place_of args.b.now args.h)) _ _ _ _ _ _ _ c.next_tube-next.ensures.1 c.next-1.given.1 in
+    omega (arith, alphas_under _ args.h.residues c.next-1.given.0.1.1.0.source c.alphas_at-alphas.ensures, G.at.stands.size)
+
+pub offset_bounds-view-oxygens : goal.offset_bounds-view-oxygens
+offset_bounds-view-oxygens c = omega (arith, c.requires.0.0.few_residues)
+
+pub slice_bounds-write_one-end-in-loop-from-2 : goal.slice_bounds-write_one-end-in-loop-from-2
+slice_bounds-write_one-end-in-loop-from-2 c =
+    let args = c.args in
+    let G = gives_got (job_of args.b.now args.h) (segments_of args.q.now) (far_by (place_of args.b.now args.h)) _ _ _ _ _ _ _ c.next_tube-next.ensures.1 c.next-1.given.1 in
+    omega (arith, G.at.stands.size)
+
+pub write_one-s-requires : goal.write_one-s-requires
+write_one-s-requires c =
+    let args = c.args in
+    let p = c.requires.0 in
+    let inv = c.loop-from.invariant in
+    let alphas_at_lem = c.alphas_at-alphas in
+    let G = gives_got (job_of args.b.now args.h) (segments_of args.q.now) (far_by (place_of args.b.now args.h)) _ _ _ _ _ _ _ c.next_tube-next.ensures.1 c.next-1.given.1 in
+    let a = got_table (job_of args.b.now args.h) (segments_of args.q.now) (far_by (place_of args.b.now args.h)) _ _ _ _ _ _ G alphas_at_lem.result alphas_at_lem.ensures in (
+      (p.0, G.at.kind, omega (arith, a, p.0.few_residues), omega (arith, a, p.2, inv.2.0), small_way _ _ _ all_frames (left_counted _ _ _ _ _ _ _ inv.3) inv.3.twice (small_end (protein_of args.b.now args.h) (segments_of args.q.now) _ p.0.few_residues p.5 p.4)),
+      (((got_long (job_of args.b.now args.h) (segments_of args.q.now) (far_by (place_of args.b.now args.h)) _ _ _ _ _ _ G), G.follows, got_sited (job_of args.b.now args.h) (segments_of args.q.now) (far_by (place_of args.b.now args.h)) _ _ _ _ _ _ G alphas_at_lem.result alphas_at_lem.ensures, got_aired (job_of args.b.now args.h) (segments_of args.q.now) (far_by (place_of args.b.now args.h)) _ _ _ _ _ _ G refl), left_room _ _ _ _ _ _ _ inv.3 _ _ G.left),
+    )
+
+pub loop-from-smaller : goal.loop-from-smaller
+loop-from-smaller c =
+    let args = c.args in
+    let G = gives_got (job_of args.b.now args.h) (segments_of args.q.now) (far_by (place_of args.b.now args.h)) _ _ _ _ _ _ _ c.next_tube-next.ensures.1 c.next-1.given.1 in
+    G.less
+
+pub loop-from-preserved : goal.loop-from-preserved
+loop-from-preserved c =
+    let args = c.args in
+    let inv = c.loop-from.invariant in
+    let write-one = c.write_one-s in
+    let G = gives_got (job_of args.b.now args.h) (segments_of args.q.now) (far_by (place_of args.b.now args.h)) _ _ _ _ _ _ _ c.next_tube-next.ensures.1 c.next-1.given.1 in
+    let a = got_table (job_of args.b.now args.h) (segments_of args.q.now) (far_by (place_of args.b.now args.h)) _ _ _ _ _ _ G c.alphas_at-alphas.result c.alphas_at-alphas.ensures in
+    let k = write-one.auto.1.1.1.1.1.1.1.1 in (
+      G.at,
+      kept_then _ _ _ _ _ _ _ (omega arith) (omega arith) inv.1 c.next_tube-next.ensures.0,
+      (k.0 ∙ inv.2.0, (rw a at write-one.ensures.0) ∙ inv.2.1),
+      left_turn _ _ _ _ _ _ _ inv.3 _ _ G.left _ _ write-one.ensures.1 (record { positions = k.1.0; normals = k.1.1.0; tags = k.1.1.1.0; triangles = k.1.1.1.1.0; tubes = k.1.1.1.1.1.0; boxes = k.1.1.1.1.1.1.0 }) (got_long (job_of args.b.now args.h) (segments_of args.q.now) (far_by (place_of args.b.now args.h)) _ _ _ _ _ _ G),
+    )
