@@ -20,8 +20,7 @@ pub piece_end-requires : goal.piece_end-requires
 piece_end-requires c =
     let pre = c.requires in
     let args = c.args in
-    let w = whole_is (job_of args.b.now args.h) _ _ pre.1 _ pre.2 in
-    (omega (arith, ap length w, pre.2, pre.3), whole_below (job_of args.b.now args.h) _ _ pre.1 _ pre.2)
+    let w = whole_is (job_of args.b.now args.h) _ _ pre.1 _ pre.2 in record { p_in_bounds = omega (arith, ap length w, pre.2, pre.3); by_index = whole_below (job_of args.b.now args.h) _ _ pre.1 _ pre.2 }
 
 pub returns : goal.returns
 returns c =

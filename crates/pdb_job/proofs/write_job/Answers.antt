@@ -6,7 +6,7 @@ use Rattle.pdb_job.proofs.write_job.Goals as goal
 
 pub put_head-requires : goal.put_head-requires
 put_head-requires c =
-    let p = c.requires.1 in
+    let p = c.requires.counted in
     let m = not_more _ _ _ p.0 p.1 in
     let L = within_limits _ _ _ p.0 m p.1 in
     let z = size_is _ _ _ p.0 m in
@@ -14,28 +14,28 @@ put_head-requires c =
 
 pub put_visible-requires : goal.put_visible-requires
 put_visible-requires c =
-    let p = c.requires.1 in
+    let p = c.requires.counted in
     let k = kept _ _ _ c.put_head.ensures in
     let z = size_is _ _ _ p.0 (not_more _ _ _ p.0 p.1) in
     omega (arith, p.2)
 
 pub overflow_add-first : goal.overflow_add-first
 overflow_add-first c =
-    let p = c.requires.1 in
+    let p = c.requires.counted in
     let m = not_more _ _ _ p.0 p.1 in
     let L = within_limits _ _ _ p.0 m p.1 in
     omega (arith, L.0)
 
 pub overflow_mul-segments : goal.overflow_mul-segments
 overflow_mul-segments c =
-    let p = c.requires.1 in
+    let p = c.requires.counted in
     let m = not_more _ _ _ p.0 p.1 in
     let L = within_limits _ _ _ p.0 m p.1 in
     omega (arith, L.1)
 
 pub overflow_add-first-2 : goal.overflow_add-first-2
 overflow_add-first-2 c =
-    let p = c.requires.1 in
+    let p = c.requires.counted in
     let m = not_more _ _ _ p.0 p.1 in
     let L = within_limits _ _ _ p.0 m p.1 in
     omega (arith, L.0, L.1)
@@ -43,17 +43,17 @@ overflow_add-first-2 c =
 pub write_records-requires : goal.write_records-requires
 write_records-requires c =
     let pre = c.requires in
-    let m = not_more _ _ _ pre.1.0 pre.1.1 in
+    let m = not_more _ _ _ c.requires.counted.0 c.requires.counted.1 in
     let k = kept _ _ _ c.put_visible.ensures in
     let j = kept _ _ _ c.put_head.ensures in
-    let z = size_is _ _ _ pre.1.0 m in
-    let W = pre.0.whole m in
-    (W.residues, marks_are _ _ _ pre.1.0 m _ W.chains, omega (arith, pre.1.0.segments_are), omega (arith, pre.1.2, pre.1.0.atoms m))
+    let z = size_is _ _ _ c.requires.counted.0 m in
+    let W = c.requires.noted.whole m in
+    (W.residues, marks_are _ _ _ c.requires.counted.0 m _ W.chains, omega (arith, c.requires.counted.0.segments_are), omega (arith, c.requires.counted.2, c.requires.counted.0.atoms m))
 
 pub shape_of-out : goal.shape_of-out
 shape_of-out c = kept _ _ _ c.write_records.ensures ∙ length_put _ _ _ ∙ kept _ _ _ c.put_visible.ensures ∙ kept _ _ _ c.put_head.ensures
 
 pub returns : goal.returns
 returns c =
-    let p = c.requires.1 in
+    let p = c.requires.counted in
     written _ _ _ p.0 (not_more _ _ _ p.0 p.1) _ _ _ _ c.put_head.ensures c.put_visible.ensures c.write_records.ensures

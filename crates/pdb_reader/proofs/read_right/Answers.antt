@@ -61,8 +61,7 @@ write_job-requires c =
     let pre = c.requires in
     let p = sym (c.is_past_limits.ensures _ pre.1) ∙ c.if-is_past_limits.false in
     let m = not_more _ _ _ pre.1 (limited _ p) in
-    let z = size_is _ _ _ pre.1 m in
-    (pre.0, (pre.1, limited _ p, omega (arith, c.if-out-size.false)))
+    let z = size_is _ _ _ pre.1 m in record { noted = pre.0; counted = (pre.1, limited _ p, omega (arith, c.if-out-size.false)) }
 
 pub shape_of-out : goal.shape_of-out
 shape_of-out c = kept _ _ _ c.write_job.ensures

@@ -57,10 +57,7 @@ pub write_all-t-requires : goal.write_all-t-requires
 write_all-t-requires c =
     let args = c.args in
     let q : short_scratch args.h (length args.words.now) (length args.floats.now) ≡ false = (sym c.is_short.ensures ∙ c.if-is_short.false) in
-    let n = (start_counted args.b.now args.h args.q.now 0 _ c.before_all.ensures _ c.count_all-sum.ensures.0) in (
-      (c.requires.0, omega (arith, long_words args.h _ _ q, c.count_all-sum.auto.1.1.1.1.0), omega (arith, long_floats args.h _ _ q), c.requires.1, start_small _ 0 c.before_all-2.ensures, c.requires.2),
-      start_ready args.b.now args.h args.q.now 0 _ c.before_all-2.ensures _ (outs args.positions.now args.normals.now args.tags.now args.triangles.now args.records.now args.boxes.now) n (record { room = room_for c.count_all-sum.result (outs args.positions.now args.normals.now args.tags.now args.triangles.now args.records.now args.boxes.now) _ _ c.is_tight.ensures c.counts_of.ensures c.if-is_tight.false; few = c.if-sum-gt1048576.false }),
-    )
+    let n = (start_counted args.b.now args.h args.q.now 0 _ c.before_all.ensures _ c.count_all-sum.ensures.0) in record { whole = (c.requires.0, omega (arith, long_words args.h _ _ q, c.count_all-sum.auto.1.1.1.1.0), omega (arith, long_floats args.h _ _ q), c.requires.1, start_small _ 0 c.before_all-2.ensures, c.requires.2); ready = start_ready args.b.now args.h args.q.now 0 _ c.before_all-2.ensures _ (outs args.positions.now args.normals.now args.tags.now args.triangles.now args.records.now args.boxes.now) n (record { room = room_for c.count_all-sum.result (outs args.positions.now args.normals.now args.tags.now args.triangles.now args.records.now args.boxes.now) _ _ c.is_tight.ensures c.counts_of.ensures c.if-is_tight.false; few = c.if-sum-gt1048576.false }) }
 
 pub clear_scratch-requires-2 : goal.clear_scratch-requires-2
 clear_scratch-requires-2 c =

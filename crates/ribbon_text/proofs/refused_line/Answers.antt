@@ -11,5 +11,4 @@ unfolding refused_line
 returns c =
     let p = c.put_field-a.ensures in
     let q = c.put_carried-b.ensures in
-    let r = c.put_text.ensures in
-    (then _ _ _ _ (then _ _ _ _ (rw c.refusal_numbers-n.ensures at p.0) q.0) r, counts _ _ (omega (arith, r.1, kept _ _ _ r.0, c.requires, kept _ _ _ p.0.0, p.1, kept _ _ _ q.0.0, q.1)))
+    let r = c.put_text.ensures in record { wrote = then _ _ _ _ (then _ _ _ _ (rw c.refusal_numbers-n.ensures at p.0) q.0) r; prefix_len = counts _ _ (omega (arith, r.1, kept _ _ _ r.0, c.requires, kept _ _ _ p.0.0, p.1, kept _ _ _ q.0.0, q.1)) }

@@ -12,5 +12,4 @@ returns c =
     let p = c.put_field-a.ensures in
     let q = c.put_field-b.ensures in
     let r = c.put_field-c.ensures in
-    let s = c.put_text.ensures in
-    (then _ _ _ _ (then _ _ _ _ (then _ _ _ _ p.0 q.0) r.0) s, counts _ _ (omega (arith, s.1, kept _ _ _ s.0, c.requires, kept _ _ _ p.0.0, p.1, kept _ _ _ q.0.0, q.1, kept _ _ _ r.0.0, r.1)))
+    let s = c.put_text.ensures in record { wrote = then _ _ _ _ (then _ _ _ _ (then _ _ _ _ p.0 q.0) r.0) s; prefix_len = counts _ _ (omega (arith, s.1, kept _ _ _ s.0, c.requires, kept _ _ _ p.0.0, p.1, kept _ _ _ q.0.0, q.1, kept _ _ _ r.0.0, r.1)) }

@@ -21,5 +21,4 @@ returns c =
     let s = c.put_field-d.ensures in
     let t = c.put_field-e.ensures in
     let u = c.put_field-f.ensures in
-    let v = c.put_text.ensures in
-    (then _ _ _ _ (then _ _ _ _ (then _ _ _ _ (then _ _ _ _ (then _ _ _ _ (then _ _ _ _ p.0 q.0) r.0) s.0) t.0) u.0) v, counts _ _ (omega (arith, v.1, kept _ _ _ v.0, c.requires, kept _ _ _ p.0.0, p.1, kept _ _ _ q.0.0, q.1, kept _ _ _ r.0.0, r.1, kept _ _ _ s.0.0, s.1, kept _ _ _ t.0.0, t.1, kept _ _ _ u.0.0, u.1)))
+    let v = c.put_text.ensures in record { wrote = then _ _ _ _ (then _ _ _ _ (then _ _ _ _ (then _ _ _ _ (then _ _ _ _ (then _ _ _ _ p.0 q.0) r.0) s.0) t.0) u.0) v; prefix_len = counts _ _ (omega (arith, v.1, kept _ _ _ v.0, c.requires, kept _ _ _ p.0.0, p.1, kept _ _ _ q.0.0, q.1, kept _ _ _ r.0.0, r.1, kept _ _ _ s.0.0, s.1, kept _ _ _ t.0.0, t.1, kept _ _ _ u.0.0, u.1)) }

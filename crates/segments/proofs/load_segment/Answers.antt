@@ -11,8 +11,7 @@ fill_segment-requires c =
     let pre = c.requires in
     let S = c.span-residues.ensures in
     let C = c.clear_tables.ensures in
-    let R = c.stretch-atoms.ensures in
-    ((pre.0, omega arith, omega (arith, pre.2, C.size), S.order, S.to, pre.1), (R, met_span _ _ _ _ R S, noted_begins (job_of args.b.now args.h) _ _ _ _ _ C))
+    let R = c.stretch-atoms.ensures in record { whole = (pre.0, omega arith, omega (arith, pre.2, C.size), S.order, S.to, pre.1); reaches = (R, met_span _ _ _ _ R S, noted_begins (job_of args.b.now args.h) _ _ _ _ _ C) }
 
 pub returns : goal.returns
 returns c =

@@ -14,7 +14,7 @@ unfolding put upto
 loop-k-init c = (omega arith, omega arith, refl)
 
 pub cap_side-requires : goal.cap_side-requires
-cap_side-requires c = (omega (arith, kept _ _ _ c.loop-k.invariant.2), omega arith)
+cap_side-requires c = record { at_in_bounds = omega (arith, kept _ _ _ c.loop-k.invariant.2); k_bound = omega arith }
 
 pub overflow_add-place : goal.overflow_add-place
 overflow_add-place c = omega (arith, kept _ _ _ c.loop-k.invariant.2)

@@ -14,32 +14,32 @@ use Rattle.stitch.proofs.tube_triangles.Goals as goal
 -- Assumes nothing.
 
 pub overflow_mul-bands : goal.overflow_mul-bands
-overflow_mul-bands c = omega (arith, vertex_count_lem c.args.n c.requires.1.0)
+overflow_mul-bands c = omega (arith, vertex_count_lem c.args.n c.requires.le_n.0)
 
 pub emit_cap-requires : goal.emit_cap-requires
-emit_cap-requires c = (omega (arith, triangle_count_lem c.args.n c.requires.1.0), omega (arith, vertex_count_lem c.args.n c.requires.1.0))
+emit_cap-requires c = record { at_in_bounds = omega (arith, triangle_count_lem c.args.n c.requires.le_n.0); base_bound = omega (arith, vertex_count_lem c.args.n c.requires.le_n.0) }
 
 pub overflow_add-place : goal.overflow_add-place
-overflow_add-place c = omega (arith, triangle_count_lem c.args.n c.requires.1.0)
+overflow_add-place c = omega (arith, triangle_count_lem c.args.n c.requires.le_n.0)
 
 pub overflow_add-b : goal.overflow_add-b
-overflow_add-b c = omega (arith, vertex_count_lem c.args.n c.requires.1.0)
+overflow_add-b c = omega (arith, vertex_count_lem c.args.n c.requires.le_n.0)
 
 pub loop-j-init : goal.loop-j-init
 unfolding put upto ring
 loop-j-init c = (omega arith, omega arith, refl, omega arith, omega arith, omega arith, refl)
 
 pub append_ring_and_stitch-requires : goal.append_ring_and_stitch-requires
-append_ring_and_stitch-requires c = (omega (arith, triangle_count_lem c.args.n c.requires.1.0, kept _ _ _ c.loop-j.invariant.6, kept _ _ _ c.emit_cap.ensures), omega (arith, vertex_count_lem c.args.n c.requires.1.0))
+append_ring_and_stitch-requires c = record { at_in_bounds = omega (arith, triangle_count_lem c.args.n c.requires.le_n.0, kept _ _ _ c.loop-j.invariant.6, kept _ _ _ c.emit_cap.ensures); a_bound = omega (arith, vertex_count_lem c.args.n c.requires.le_n.0) }
 
 pub overflow_add-place-in-loop-j : goal.overflow_add-place-in-loop-j
 overflow_add-place-in-loop-j c = omega (arith, kept _ _ _ c.loop-j.invariant.6, kept _ _ _ c.emit_cap.ensures)
 
 pub overflow_add-b-in-loop-j : goal.overflow_add-b-in-loop-j
-overflow_add-b-in-loop-j c = omega (arith, vertex_count_lem c.args.n c.requires.1.0)
+overflow_add-b-in-loop-j c = omega (arith, vertex_count_lem c.args.n c.requires.le_n.0)
 
 pub overflow_add-j : goal.overflow_add-j
-overflow_add-j c = omega (arith, vertex_count_lem c.args.n c.requires.1.0)
+overflow_add-j c = omega (arith, vertex_count_lem c.args.n c.requires.le_n.0)
 
 pub loop-j-preserved : goal.loop-j-preserved
 unfolding ring
@@ -55,7 +55,7 @@ loop-j-preserved c = let loop = c.loop-j in
     )
 
 pub emit_cap-requires-2 : goal.emit_cap-requires-2
-emit_cap-requires-2 c = (omega (arith, triangle_count_lem c.args.n c.requires.1.0, kept _ _ _ c.loop-j.invariant.6, kept _ _ _ c.emit_cap.ensures), omega (arith, vertex_count_lem c.args.n c.requires.1.0))
+emit_cap-requires-2 c = record { at_in_bounds = omega (arith, triangle_count_lem c.args.n c.requires.le_n.0, kept _ _ _ c.loop-j.invariant.6, kept _ _ _ c.emit_cap.ensures); base_bound = omega (arith, vertex_count_lem c.args.n c.requires.le_n.0) }
 
 pub shape_of-triangles : goal.shape_of-triangles
 shape_of-triangles c = kept _ _ _ c.emit_cap-2.ensures ∙ kept _ _ _ c.loop-j.invariant.6 ∙ kept _ _ _ c.emit_cap.ensures

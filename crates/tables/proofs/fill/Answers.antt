@@ -10,10 +10,10 @@ use Rattle.tables.proofs.Laws.{fill_begins}
 use Rattle.tables.proofs.fill.Goals as goal
 
 pub loop-a-init : goal.loop-a-init
-loop-a-init c = let args = c.args in (omega arith, fill_begins (job_of args.b.now args.h) args.which args.w args.base _ c.requires.1)
+loop-a-init c = let args = c.args in (omega arith, fill_begins (job_of args.b.now args.h) args.which args.w args.base _ c.requires.by_index)
 
 pub note-requires : goal.note-requires
-note-requires c = ((c.requires.0.0, omega arith, omega (arith, c.loop-a.invariant.1.size, c.requires.0.1), omega arith), c.loop-a.invariant.1.entry)
+note-requires c = record { whole = (c.requires.whole.0, omega arith, omega (arith, c.loop-a.invariant.1.size, c.requires.whole.1), omega arith); by_index = c.loop-a.invariant.1.entry }
 
 pub loop-a-preserved : goal.loop-a-preserved
 loop-a-preserved c = (omega arith, fill_again _ _ _ _ _ _ _ c.loop-a.invariant.1 c.note.ensures)

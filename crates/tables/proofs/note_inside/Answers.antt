@@ -15,7 +15,7 @@ returns-then-role-eq0 c =
     let pre = c.requires in
     let J = job_of args.b.now args.h in
     let role = c.role-role.ensures in
-    filling_skip (job_of args.b.now args.h) args.g args.full args.residues args.seen args.alphas args.oxygens args.a _ pre.1.1 (no_alpha J args.g args.a (λ e. omega arith)) (λ _. no_oxygen J args.g args.a (λ e. omega arith))
+    filling_skip (job_of args.b.now args.h) args.g args.full args.residues args.seen args.alphas args.oxygens args.a _ c.requires.filling (no_alpha J args.g args.a (λ e. omega arith)) (λ _. no_oxygen J args.g args.a (λ e. omega arith))
 
 pub returns-then-all-r : goal.returns-then-all-r
 returns-then-all-r c =
@@ -24,7 +24,7 @@ returns-then-all-r c =
     let J = job_of args.b.now args.h in
     let role = c.role-role.ensures in
     let residue = c.residue-r.ensures in
-    filling_none (job_of args.b.now args.h) args.g args.full args.residues args.seen args.alphas args.oxygens args.a _ pre.1.1 pre.0.4 (omega arith)
+    filling_none (job_of args.b.now args.h) args.g args.full args.residues args.seen args.alphas args.oxygens args.a _ c.requires.filling c.requires.whole.4 (omega arith)
 
 pub returns-then-role-eq1 : goal.returns-then-role-eq1
 returns-then-role-eq1 c =
@@ -33,10 +33,10 @@ returns-then-role-eq1 c =
     let J = job_of args.b.now args.h in
     let role = c.role-role.ensures in
     let residue = c.residue-r.ensures in
-    let own : In args.residues (J.residue args.a) = pre.1.0.1 args.a pre.0.1 pre.1.0.0 (omega arith) in
+    let own : In args.residues (J.residue args.a) = c.requires.a_value.1 args.a c.requires.whole.1 c.requires.a_value.0 (omega arith) in
     let here = subst (λ (k : ℕ). In args.residues k) (sym residue) own in
     let is : J.role args.a ≡ 1 = omega arith in
-    filling_alpha (job_of args.b.now args.h) args.g args.full args.residues args.seen args.alphas args.oxygens args.a _ pre.1.1 _ residue here pre.0.4 pre.0.2 pre.0.3 _ (alpha_wanted J args.g args.a is pre.1.0.0) (no_oxygen J args.g args.a (λ e. omega arith)) c.widened.ensures
+    filling_alpha (job_of args.b.now args.h) args.g args.full args.residues args.seen args.alphas args.oxygens args.a _ c.requires.filling _ residue here c.requires.whole.4 c.requires.whole.2 c.requires.whole.3 _ (alpha_wanted J args.g args.a is c.requires.a_value.0) (no_oxygen J args.g args.a (λ e. omega arith)) c.widened.ensures
 
 pub returns-then-not-full : goal.returns-then-not-full
 returns-then-not-full c =
@@ -44,7 +44,7 @@ returns-then-not-full c =
     let pre = c.requires in
     let J = job_of args.b.now args.h in
     let role = c.role-role.ensures in
-    filling_skip (job_of args.b.now args.h) args.g args.full args.residues args.seen args.alphas args.oxygens args.a _ pre.1.1 (no_alpha J args.g args.a (λ e. omega arith)) (λ e. clash e (not-true _ c.if-not-full.true))
+    filling_skip (job_of args.b.now args.h) args.g args.full args.residues args.seen args.alphas args.oxygens args.a _ c.requires.filling (no_alpha J args.g args.a (λ e. omega arith)) (λ e. clash e (not-true _ c.if-not-full.true))
 
 pub returns-then-role-ne2 : goal.returns-then-role-ne2
 returns-then-role-ne2 c =
@@ -52,7 +52,7 @@ returns-then-role-ne2 c =
     let pre = c.requires in
     let J = job_of args.b.now args.h in
     let role = c.role-role.ensures in
-    filling_skip (job_of args.b.now args.h) args.g args.full args.residues args.seen args.alphas args.oxygens args.a _ pre.1.1 (no_alpha J args.g args.a (λ e. omega arith)) (λ _. no_oxygen J args.g args.a (λ e. omega arith))
+    filling_skip (job_of args.b.now args.h) args.g args.full args.residues args.seen args.alphas args.oxygens args.a _ c.requires.filling (no_alpha J args.g args.a (λ e. omega arith)) (λ _. no_oxygen J args.g args.a (λ e. omega arith))
 
 pub returns : goal.returns
 returns c =
@@ -61,7 +61,7 @@ returns c =
     let J = job_of args.b.now args.h in
     let role = c.role-role.ensures in
     let residue = c.residue-r.ensures in
-    let own : In args.residues (J.residue args.a) = pre.1.0.1 args.a pre.0.1 pre.1.0.0 (omega arith) in
+    let own : In args.residues (J.residue args.a) = c.requires.a_value.1 args.a c.requires.whole.1 c.requires.a_value.0 (omega arith) in
     let here = subst (λ (k : ℕ). In args.residues k) (sym residue) own in
     let is : J.role args.a ≡ 2 = omega arith in
-    filling_oxygen (job_of args.b.now args.h) args.g args.full args.residues args.seen args.alphas args.oxygens args.a _ pre.1.1 _ residue here pre.0.4 pre.0.2 pre.0.3 (not-false _ c.if-not-full.false) (no_alpha J args.g args.a (λ e. omega arith)) (oxygen_wanted J args.g args.a is pre.1.0.0)
+    filling_oxygen (job_of args.b.now args.h) args.g args.full args.residues args.seen args.alphas args.oxygens args.a _ c.requires.filling _ residue here c.requires.whole.4 c.requires.whole.2 c.requires.whole.3 (not-false _ c.if-not-full.false) (no_alpha J args.g args.a (λ e. omega arith)) (oxygen_wanted J args.g args.a is c.requires.a_value.0)

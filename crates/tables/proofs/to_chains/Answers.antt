@@ -28,7 +28,7 @@ pub chain-requires : goal.chain-requires
 chain-requires c =
     let args = c.args in
     let loop = c.loop-i in
-    (c.requires.0.0, omega (arith, grow_at _ _ _ _ loop.invariant.1, c.requires.1 loop.i (omega arith), last_le (gives (job_of args.b.now args.h) Chain loop.i) args.h.atoms))
+    (c.requires.whole.0, omega (arith, grow_at _ _ _ _ loop.invariant.1, c.requires.by_index loop.i (omega arith), last_le (gives (job_of args.b.now args.h) Chain loop.i) args.h.atoms))
 
 pub offset_bounds-t-i-then-a-ne0 : goal.offset_bounds-t-i-then-a-ne0
 offset_bounds-t-i-then-a-ne0 c = omega (arith, c.loop-i.invariant.1.size, c.well_formed.1.1.0.1)
@@ -40,7 +40,7 @@ pub loop-i-preserved : goal.loop-i-preserved
 loop-i-preserved c =
     let args = c.args in
     let loop = c.loop-i in
-    let q = grow_at _ _ _ _ loop.invariant.1 ∙ c.requires.1 loop.i (omega arith) in
+    let q = grow_at _ _ _ _ loop.invariant.1 ∙ c.requires.by_index loop.i (omega arith) in
     ⊎_elim
     (λ x. (omega arith, rw x.2 (grow_set _ _ _ _ loop.invariant.1 _ (omega arith) (ap (λ (k : ℕ). k + 1) x.1.ensures.0 ∙ code_some (job_of args.b.now args.h) _ _ q x.0.taken))))
     (λ x. (omega arith, rw x.1 (grow_same _ _ _ _ loop.invariant.1 (code_none (job_of args.b.now args.h) _ _ q x.0.left))))

@@ -6,8 +6,7 @@ use Rattle.trail.proofs.next_segment.Goals as goal
 
 pub enter-frames-requires : goal.enter-frames-requires
 enter-frames-requires c =
-    let pre = c.requires in
-    ((pre.0, c.range_at-g.ensures.1, pre.1, pre.2), (pre.4.chains, pre.5))
+    let pre = c.requires in record { whole = (pre.0, c.range_at-g.ensures.1, pre.1, pre.2); chains = (pre.4.chains, pre.5) }
 
 pub returns : goal.returns
 returns c =

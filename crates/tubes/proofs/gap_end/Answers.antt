@@ -14,7 +14,7 @@ pub overflow_cast-run : goal.overflow_cast-run
 overflow_cast-run c = omega (arith, c.type_inv.run c.args.p)
 
 pub place_of-last-requires : goal.place_of-last-requires
-place_of-last-requires c = (c.requires.0.0, c.requires.1 c.args.p (omega arith))
+place_of-last-requires c = (c.requires.whole.0, c.requires.each c.args.p (omega arith))
 
 pub loop-e-init : goal.loop-e-init
 loop-e-init c =
@@ -25,7 +25,7 @@ pub overflow_cast-run-in-loop-e : goal.overflow_cast-run-in-loop-e
 overflow_cast-run-in-loop-e c = omega (arith, c.type_inv.run c.loop-e.e)
 
 pub place_of-next-requires : goal.place_of-next-requires
-place_of-next-requires c = (c.requires.0.0, c.requires.1 c.loop-e.e (omega arith))
+place_of-next-requires c = (c.requires.whole.0, c.requires.each c.loop-e.e (omega arith))
 
 pub returns-then-is_long : goal.returns-then-is_long
 unfolding gap_in far_by

@@ -19,7 +19,7 @@ pub overflow_cast-list-in-loop-e : goal.overflow_cast-list-in-loop-e
 overflow_cast-list-in-loop-e c = omega (arith, c.type_inv.list c.loop-e.e)
 
 pub is_apart-requires : goal.is_apart-requires
-is_apart-requires c = (c.requires.1 (c.loop-e.e - 1) (omega arith), c.requires.1 c.loop-e.e (omega arith))
+is_apart-requires c = (c.requires.by_index (c.loop-e.e - 1) (omega arith), c.requires.by_index c.loop-e.e (omega arith))
 
 pub returns-then-is_apart : goal.returns-then-is_apart
 returns-then-is_apart c = (omega arith, omega arith, piece_at _ _ _ _ (omega arith) (omega arith) c.loop-e.invariant.1.1 (λ l. sym c.is_apart.ensures ∙ c.if-is_apart.true))

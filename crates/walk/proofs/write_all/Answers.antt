@@ -19,35 +19,34 @@ use Rattle.walk.proofs.Found.{got_long, got_table, got_sited, got_aired}
 use Rattle.walk.proofs.write_all.Goals as goal
 
 pub begin-c-requires : goal.begin-c-requires
-begin-c-requires c = (c.requires.0.0, c.requires.0.1)
+begin-c-requires c = (c.requires.whole.0, c.requires.whole.1)
 
 pub loop-from-init : goal.loop-from-init
 unfolding tube_list
-loop-from-init c = (c.begin-c.ensures.1, kept_refl _ _ _, (refl, refl), left_start _ _ _ _ _ c.begin-c.ensures.2 c.requires.0.4.twice c.requires.1)
+loop-from-init c = (c.begin-c.ensures.1, kept_refl _ _ _, (refl, refl), left_start _ _ _ _ _ c.begin-c.ensures.2 c.requires.whole.4.twice c.requires.ready)
 
 pub next_tube-next-requires : goal.next_tube-next-requires
-next_tube-next-requires c = (c.requires.0.0, c.loop-from.invariant.0, c.requires.0.3)
+next_tube-next-requires c = (c.requires.whole.0, c.loop-from.invariant.0, c.requires.whole.3)
 
 pub returns-in_default : goal.returns-in_default
 returns-in_default c =
     let args = c.args in
-    let inv = c.loop-from.invariant in
-    (kept_then _ _ _ _ _ _ _ (omega arith) (omega arith) c.begin-c.ensures.0 (kept_then _ _ _ _ _ _ _ (omega arith) (omega arith) inv.1 c.next_tube-next.ensures.0), (inv.2.1, left_over _ _ _ _ _ _ _ inv.3 (gives_end (job_of args.b.now args.h) (segments_of args.q.now) true (far_by (place_of args.b.now args.h)) _ _ _ _ c.next_tube-next.ensures.1 c.in_default.is)))
+    let inv = c.loop-from.invariant in record { kept = kept_then _ _ _ _ _ _ _ (omega arith) (omega arith) c.begin-c.ensures.0 (kept_then _ _ _ _ _ _ _ (omega arith) (omega arith) inv.1 c.next_tube-next.ensures.0); floats_unchanged = inv.2.1; boxes_value = left_over _ _ _ _ _ _ _ inv.3 (gives_end (job_of args.b.now args.h) (segments_of args.q.now) true (far_by (place_of args.b.now args.h)) _ _ _ _ c.next_tube-next.ensures.1 c.in_default.is) }
 
 pub alphas_at-alphas-requires : goal.alphas_at-alphas-requires
-alphas_at-alphas-requires c = c.requires.0.0.few_residues
+alphas_at-alphas-requires c = c.requires.whole.0.few_residues
 
 pub overflow_add-end : goal.overflow_add-end
 overflow_add-end c =
     let args = c.args in
     let G = gives_got (job_of args.b.now args.h) (segments_of args.q.now) (far_by (place_of args.b.now args.h)) _ _ _ _ _ _ _ c.next_tube-next.ensures.1 c.in-Piece.is in
-    omega (arith, alphas_under _ args.h.residues c.in-Piece.d.source c.alphas_at-alphas.ensures, c.requires.0.0.few_residues)
+    omega (arith, alphas_under _ args.h.residues c.in-Piece.d.source c.alphas_at-alphas.ensures, c.requires.whole.0.few_residues)
 
 pub offset_bounds-view-from : goal.offset_bounds-view-from
 offset_bounds-view-from c =
     let args = c.args in
     let G = gives_got (job_of args.b.now args.h) (segments_of args.q.now) (far_by (place_of args.b.now args.h)) _ _ _ _ _ _ _ c.next_tube-next.ensures.1 c.next-1.given.1 in
-    omega (arith, G.long, G.fits, G.at.stands.size, c.requires.0.0.few_residues)
+    omega (arith, G.long, G.fits, G.at.stands.size, c.requires.whole.0.few_residues)
 
 pub slice_bounds-write_one-count : goal.slice_bounds-write_one-count
 slice_bounds-write_one-count c =
@@ -68,7 +67,7 @@ slice_bounds-write_one-end c =
     omega (arith, G.fits, G.at.stands.size)
 
 pub offset_bounds-view-alphas : goal.offset_bounds-view-alphas
-offset_bounds-view-alphas c = omega (arith, alphas_under _ c.args.h.residues c.next-1.given.0.1.1.0.source c.alphas_at-alphas.ensures, c.requires.0.0.few_residues)
+offset_bounds-view-alphas c = omega (arith, alphas_under _ c.args.h.residues c.next-1.given.0.1.1.0.source c.alphas_at-alphas.ensures, c.requires.whole.0.few_residues)
 
 pub slice_bounds-write_one-end-in-loop-from : goal.slice_bounds-write_one-end-in-loop-from
 slice_bounds-write_one-end-in-loop-from c =
@@ -77,7 +76,7 @@ slice_bounds-write_one-end-in-loop-from c =
     omega (arith, alphas_under _ args.h.residues c.next-1.given.0.1.1.0.source c.alphas_at-alphas.ensures, G.at.stands.size)
 
 pub offset_bounds-view-oxygens : goal.offset_bounds-view-oxygens
-offset_bounds-view-oxygens c = omega (arith, c.requires.0.0.few_residues)
+offset_bounds-view-oxygens c = omega (arith, c.requires.whole.0.few_residues)
 
 pub slice_bounds-write_one-end-in-loop-from-2 : goal.slice_bounds-write_one-end-in-loop-from-2
 slice_bounds-write_one-end-in-loop-from-2 c =
@@ -88,14 +87,11 @@ slice_bounds-write_one-end-in-loop-from-2 c =
 pub write_one-s-requires : goal.write_one-s-requires
 write_one-s-requires c =
     let args = c.args in
-    let p = c.requires.0 in
+    let p = c.requires.whole in
     let inv = c.loop-from.invariant in
     let alphas_at_lem = c.alphas_at-alphas in
     let G = gives_got (job_of args.b.now args.h) (segments_of args.q.now) (far_by (place_of args.b.now args.h)) _ _ _ _ _ _ _ c.next_tube-next.ensures.1 c.next-1.given.1 in
-    let a = got_table (job_of args.b.now args.h) (segments_of args.q.now) (far_by (place_of args.b.now args.h)) _ _ _ _ _ _ G alphas_at_lem.result alphas_at_lem.ensures in (
-      (p.0, G.at.kind, omega (arith, a, p.0.few_residues), omega (arith, a, p.2, inv.2.0), small_way _ _ _ all_frames (left_counted _ _ _ _ _ _ _ inv.3) inv.3.twice (small_end (protein_of args.b.now args.h) (segments_of args.q.now) _ p.0.few_residues p.5 p.4)),
-      (((got_long (job_of args.b.now args.h) (segments_of args.q.now) (far_by (place_of args.b.now args.h)) _ _ _ _ _ _ G), G.follows, got_sited (job_of args.b.now args.h) (segments_of args.q.now) (far_by (place_of args.b.now args.h)) _ _ _ _ _ _ G alphas_at_lem.result alphas_at_lem.ensures, got_aired (job_of args.b.now args.h) (segments_of args.q.now) (far_by (place_of args.b.now args.h)) _ _ _ _ _ _ G refl), left_room _ _ _ _ _ _ _ inv.3 _ _ G.left),
-    )
+    let a = got_table (job_of args.b.now args.h) (segments_of args.q.now) (far_by (place_of args.b.now args.h)) _ _ _ _ _ _ G alphas_at_lem.result alphas_at_lem.ensures in record { whole = (p.0, G.at.kind, omega (arith, a, p.0.few_residues), omega (arith, a, p.2, inv.2.0), small_way _ _ _ all_frames (left_counted _ _ _ _ _ _ _ inv.3) inv.3.twice (small_end (protein_of args.b.now args.h) (segments_of args.q.now) _ p.0.few_residues p.5 p.4)); in_bounds = ((got_long (job_of args.b.now args.h) (segments_of args.q.now) (far_by (place_of args.b.now args.h)) _ _ _ _ _ _ G), G.follows, got_sited (job_of args.b.now args.h) (segments_of args.q.now) (far_by (place_of args.b.now args.h)) _ _ _ _ _ _ G alphas_at_lem.result alphas_at_lem.ensures, got_aired (job_of args.b.now args.h) (segments_of args.q.now) (far_by (place_of args.b.now args.h)) _ _ _ _ _ _ G refl); ready = left_room _ _ _ _ _ _ _ inv.3 _ _ G.left }
 
 pub loop-from-smaller : goal.loop-from-smaller
 loop-from-smaller c =

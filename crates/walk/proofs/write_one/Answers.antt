@@ -14,79 +14,70 @@ pub overflow_cast-from : goal.overflow_cast-from
 overflow_cast-from c =
     let args = c.args in
     let pre = c.requires in
-    omega (arith, alphas_end (job_of args.b.now args.h) args.source args.alphas.now args.part.now pre.1.0.1 pre.1.0.2 (omega (arith, pre.1.0.0)), pre.0.2)
+    omega (arith, alphas_end (job_of args.b.now args.h) args.source args.alphas.now args.part.now c.requires.in_bounds.1 c.requires.in_bounds.2 (omega (arith, c.requires.in_bounds.0)), c.requires.whole.2)
 
 pub overflow_add-end : goal.overflow_add-end
 overflow_add-end c =
     let args = c.args in
     let pre = c.requires in
-    omega (arith, alphas_end (job_of args.b.now args.h) args.source args.alphas.now args.part.now pre.1.0.1 pre.1.0.2 (omega (arith, pre.1.0.0)), pre.0.2)
+    omega (arith, alphas_end (job_of args.b.now args.h) args.source args.alphas.now args.part.now c.requires.in_bounds.1 c.requires.in_bounds.2 (omega (arith, c.requires.in_bounds.0)), c.requires.whole.2)
 
 pub offset_bounds-alphas-from : goal.offset_bounds-alphas-from
 offset_bounds-alphas-from c =
     let args = c.args in
     let pre = c.requires in
-    omega (arith, alphas_end (job_of args.b.now args.h) args.source args.alphas.now args.part.now pre.1.0.1 pre.1.0.2 (omega (arith, pre.1.0.0)), pre.0.2)
+    omega (arith, alphas_end (job_of args.b.now args.h) args.source args.alphas.now args.part.now c.requires.in_bounds.1 c.requires.in_bounds.2 (omega (arith, c.requires.in_bounds.0)), c.requires.whole.2)
 
 pub slice_bounds-write_tube-end : goal.slice_bounds-write_tube-end
 slice_bounds-write_tube-end c =
     let args = c.args in
-    let p = c.requires.1.0 in
+    let p = c.requires.in_bounds in
     alphas_end (job_of args.b.now args.h) args.source args.alphas.now args.part.now p.1 p.2 (omega (arith, p.0))
 
 pub offset_bounds-oxygens-from : goal.offset_bounds-oxygens-from
 offset_bounds-oxygens-from c =
     let args = c.args in
     let pre = c.requires in
-    omega (arith, alphas_end (job_of args.b.now args.h) args.source args.alphas.now args.part.now pre.1.0.1 pre.1.0.2 (omega (arith, pre.1.0.0)), pre.0.2)
+    omega (arith, alphas_end (job_of args.b.now args.h) args.source args.alphas.now args.part.now c.requires.in_bounds.1 c.requires.in_bounds.2 (omega (arith, c.requires.in_bounds.0)), c.requires.whole.2)
 
 pub slice_bounds-write_tube-end-2 : goal.slice_bounds-write_tube-end-2
 slice_bounds-write_tube-end-2 c =
     let args = c.args in
-    let p = c.requires.1.0 in
+    let p = c.requires.in_bounds in
     oxygens_end (job_of args.b.now args.h) args.source args.oxygens.now args.part.now p.1 p.3 (omega (arith, p.0))
 
 pub slice_bounds-write_tube-end-3 : goal.slice_bounds-write_tube-end-3
 slice_bounds-write_tube-end-3 c =
     let args = c.args in
     let pre = c.requires in
-    omega (arith, alphas_end (job_of args.b.now args.h) args.source args.alphas.now args.part.now pre.1.0.1 pre.1.0.2 (omega (arith, pre.1.0.0)), pre.0.3)
+    omega (arith, alphas_end (job_of args.b.now args.h) args.source args.alphas.now args.part.now c.requires.in_bounds.1 c.requires.in_bounds.2 (omega (arith, c.requires.in_bounds.0)), c.requires.whole.3)
 
 pub slice_bounds-write_tube-end-4 : goal.slice_bounds-write_tube-end-4
 slice_bounds-write_tube-end-4 c =
     let args = c.args in
     let pre = c.requires in
-    simp length-take (omega (arith, alphas_end (job_of args.b.now args.h) args.source args.alphas.now args.part.now pre.1.0.1 pre.1.0.2 (omega (arith, pre.1.0.0)), pre.0.3))
+    simp length-take (omega (arith, alphas_end (job_of args.b.now args.h) args.source args.alphas.now args.part.now c.requires.in_bounds.1 c.requires.in_bounds.2 (omega (arith, c.requires.in_bounds.0)), c.requires.whole.3))
 
 pub write_tube-requires : goal.write_tube-requires
 write_tube-requires c =
     let args = c.args in
     let pre = c.requires in
-    let two = pre.1.0.0 in
-    let a = alphas_length (job_of args.b.now args.h) args.source args.alphas.now args.part.now pre.1.0.1 pre.1.0.2 (omega (arith, pre.1.0.0)) in
-    let o = oxygens_length (job_of args.b.now args.h) args.source args.oxygens.now args.part.now pre.1.0.1 pre.1.0.3 (omega (arith, pre.1.0.0)) in
-    let e = alphas_end (job_of args.b.now args.h) args.source args.alphas.now args.part.now pre.1.0.1 pre.1.0.2 (omega (arith, pre.1.0.0)) in
-    let f : get_or args.part.now 0 0 < 65536 = omega (arith, e, pre.0.2) in
-    let g : length args.part.now ≤ 16384 = omega (arith, e, pre.0.2) in
-    let r = ready_fits args.t args.kind _ _ _ pre.1.1 in (
-      (pre.0.0, alphas_atoms (job_of args.b.now args.h) args.source args.alphas.now args.part.now pre.1.0.1 pre.1.0.2 (omega (arith, pre.1.0.0)), oxygens_atoms (job_of args.b.now args.h) args.source args.oxygens.now args.part.now pre.1.0.1 pre.1.0.3 (omega (arith, pre.1.0.0)), pre.0.1, f),
-      (
-        (rw a two, rw a g, o ∙ sym a, rw a (simp length-take (omega (arith, e, pre.0.3)))),
-        (rw a r.0, pre.0.4.twice, rw a r.1),
-      ),
-    )
+    let two = c.requires.in_bounds.0 in
+    let a = alphas_length (job_of args.b.now args.h) args.source args.alphas.now args.part.now c.requires.in_bounds.1 c.requires.in_bounds.2 (omega (arith, c.requires.in_bounds.0)) in
+    let o = oxygens_length (job_of args.b.now args.h) args.source args.oxygens.now args.part.now c.requires.in_bounds.1 c.requires.in_bounds.3 (omega (arith, c.requires.in_bounds.0)) in
+    let e = alphas_end (job_of args.b.now args.h) args.source args.alphas.now args.part.now c.requires.in_bounds.1 c.requires.in_bounds.2 (omega (arith, c.requires.in_bounds.0)) in
+    let f : get_or args.part.now 0 0 < 65536 = omega (arith, e, c.requires.whole.2) in
+    let g : length args.part.now ≤ 16384 = omega (arith, e, c.requires.whole.2) in
+    let r = ready_fits args.t args.kind _ _ _ c.requires.ready in record { whole = (c.requires.whole.0, alphas_atoms (job_of args.b.now args.h) args.source args.alphas.now args.part.now c.requires.in_bounds.1 c.requires.in_bounds.2 (omega (arith, c.requires.in_bounds.0)), oxygens_atoms (job_of args.b.now args.h) args.source args.oxygens.now args.part.now c.requires.in_bounds.1 c.requires.in_bounds.3 (omega (arith, c.requires.in_bounds.0)), c.requires.whole.1, f); in_bounds = (rw a two, rw a g, o ∙ sym a, rw a (simp length-take (omega (arith, e, c.requires.whole.3)))); alphas_bound = (rw a r.0, c.requires.whole.4.twice, rw a r.1) }
 
 pub add_tube-requires : goal.add_tube-requires
 add_tube-requires c =
     let args = c.args in
     let pre = c.requires in
-    (pre.1.0.0, omega (arith, alphas_end (job_of args.b.now args.h) args.source args.alphas.now args.part.now pre.1.0.1 pre.1.0.2 (omega (arith, pre.1.0.0)), pre.0.2), pre.0.4)
+    (c.requires.in_bounds.0, omega (arith, alphas_end (job_of args.b.now args.h) args.source args.alphas.now args.part.now c.requires.in_bounds.1 c.requires.in_bounds.2 (omega (arith, c.requires.in_bounds.0)), c.requires.whole.2), c.requires.whole.4)
 
 pub returns : goal.returns
 returns c =
     let args = c.args in
     let pre = c.requires in
-    let write-tube = c.write_tube in (
-      drop_tail (6 * length args.part.now) (6 * length args.alphas.now) write-tube.new.1.1.1.1.1.1.1.1.1.0 args.floats.now (write-tube.auto.1.1.1.1.1.1.1.1.1.0 ∙ simp length-take (omega (arith, alphas_end (job_of args.b.now args.h) args.source args.alphas.now args.part.now pre.1.0.1 pre.1.0.2 (omega (arith, pre.1.0.0)), pre.0.3))) (omega (arith, alphas_end (job_of args.b.now args.h) args.source args.alphas.now args.part.now pre.1.0.1 pre.1.0.2 (omega (arith, pre.1.0.0)))),
-      wrote_as (protein_of args.b.now args.h) args.source _ args.part.now _ _ _ _ _ _ (alphas_map (job_of args.b.now args.h) args.source args.alphas.now args.part.now pre.1.0.1 pre.1.0.2 (omega (arith, pre.1.0.0))) (oxygens_map (job_of args.b.now args.h) args.source args.oxygens.now args.part.now pre.1.0.1 pre.1.0.3 (omega (arith, pre.1.0.0))) write-tube.ensures c.add_tube.ensures,
-    )
+    let write-tube = c.write_tube in record { floats_unchanged = drop_tail (6 * length args.part.now) (6 * length args.alphas.now) write-tube.new.1.1.1.1.1.1.1.1.1.0 args.floats.now (write-tube.auto.1.1.1.1.1.1.1.1.1.0 ∙ simp length-take (omega (arith, alphas_end (job_of args.b.now args.h) args.source args.alphas.now args.part.now c.requires.in_bounds.1 c.requires.in_bounds.2 (omega (arith, c.requires.in_bounds.0)), c.requires.whole.3))) (omega (arith, alphas_end (job_of args.b.now args.h) args.source args.alphas.now args.part.now c.requires.in_bounds.1 c.requires.in_bounds.2 (omega (arith, c.requires.in_bounds.0)))); boxes_value = wrote_as (protein_of args.b.now args.h) args.source _ args.part.now _ _ _ _ _ _ (alphas_map (job_of args.b.now args.h) args.source args.alphas.now args.part.now c.requires.in_bounds.1 c.requires.in_bounds.2 (omega (arith, c.requires.in_bounds.0))) (oxygens_map (job_of args.b.now args.h) args.source args.oxygens.now args.part.now c.requires.in_bounds.1 c.requires.in_bounds.3 (omega (arith, c.requires.in_bounds.0))) write-tube.ensures c.add_tube.ensures }

@@ -39,10 +39,8 @@ returns-then-b-lt8388608 c =
     let m : ℕ = b * 2 ^ s % 2 ^ 64 in
     let y : 2 ^ 23 ≤ m = lifted_ge b p l in
     let z : m < 2 ^ 24 = lifted_lt b p l in
-    let x : s ≤ 23 = omega (arith, lift_le b p l) in
-    ((omega arith, omega arith), small_is b p l _ (split_is ((127 - s) * 2 ^ 23 + m) m (128 - s) (whole m s y z x) (power m s y z x)))
+    let x : s ≤ 23 = omega (arith, lift_le b p l) in record { lower_bound = (omega arith, omega arith); result_value = small_is b p l _ (split_is ((127 - s) * 2 ^ 23 + m) m (128 - s) (whole m s y z x) (power m s y z x)) }
 
 pub returns : goal.returns
 returns c =
-    let b : ℕ = c.args.b in
-    ((omega arith, omega arith), normal_is b _ (omega arith) (omega arith) (split_is (b + 127 * 2 ^ 23) (b % 2 ^ 23 + 2 ^ 23) (b / 2 ^ 23 + 127) (omega arith) (omega arith)))
+    let b : ℕ = c.args.b in record { lower_bound = (omega arith, omega arith); result_value = normal_is b _ (omega arith) (omega arith) (split_is (b + 127 * 2 ^ 23) (b % 2 ^ 23 + 2 ^ 23) (b / 2 ^ 23 + 127) (omega arith) (omega arith)) }

@@ -11,4 +11,4 @@ pub gather-resolved-requires : goal.gather-resolved-requires
 gather-resolved-requires c = c.gather-modelled.ensures.1.0
 
 pub returns : goal.returns
-returns c = (λ h. both_counted _ _ _ _ _ _ _ _ _ _ (holding_none _ (length-replicate {A = ℕ} 16384 0)) c.gather-modelled.ensures.0 c.gather-resolved.ensures.0 c.gather-resolved.ensures.1.1 h, c.gather-resolved.ensures.1.1)
+returns c = record { modelled_value = λ h. both_counted _ _ _ _ _ _ _ _ _ _ (holding_none _ (length-replicate {A = ℕ} 16384 0)) c.gather-modelled.ensures.0 c.gather-resolved.ensures.0 c.gather-resolved.ensures.1.1 h; modelled_le_resolved = c.gather-resolved.ensures.1.1 }

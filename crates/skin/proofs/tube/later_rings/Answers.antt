@@ -16,8 +16,7 @@ loop-s-init c = (omega arith, omega arith, wrote_none _ _ _ _ _)
 
 pub span_rings-bounds-requires : goal.span_rings-bounds-requires
 span_rings-bounds-requires c =
-    let loop = c.loop-s in
-    ((c.requires.0, room _ _ _ _ _ loop.invariant.2 c.requires.1 (loop.at + 8 * (8 - (loop.s + 1) % 8)) (omega arith)), (omega arith, omega arith))
+    let loop = c.loop-s in record { course = (c.requires.0, room _ _ _ _ _ loop.invariant.2 c.requires.1 (loop.at + 8 * (8 - (loop.s + 1) % 8)) (omega arith)); count_bound = (omega arith, omega arith) }
 
 pub overflow_add-s : goal.overflow_add-s
 overflow_add-s c = omega (arith, c.loop-s, c.loop-s-test, c)

@@ -18,18 +18,18 @@ loop-j-init c = (omega arith, omega arith, wrote_none _ _ _ _ _)
 
 pub spokes_at-own-requires : goal.spokes_at-own-requires
 spokes_at-own-requires c =
-    let r = c.requires.0.0 in
+    let r = c.requires.course.0 in
     (r.two, r.most, omega (arith, c.loop-j, c.loop-j-test, c), r.same)
 
 pub tag_at-requires : goal.tag_at-requires
 tag_at-requires c =
-    let r = c.requires.0.0 in
+    let r = c.requires.course.0 in
     (r.two, omega (arith, c.loop-j, c.loop-j-test, c), r.low)
 
 pub put_sides-bounds-requires : goal.put_sides-bounds-requires
 put_sides-bounds-requires c =
     let s = c.loop-j in
-    room _ _ _ _ _ s.invariant.2 c.requires.0.1 (s.at + 8) (omega (arith, s, c.loop-j-test, c))
+    room _ _ _ _ _ s.invariant.2 c.requires.course.1 (s.at + 8) (omega (arith, s, c.loop-j-test, c))
 
 pub overflow_add-j : goal.overflow_add-j
 overflow_add-j c = omega (arith, c.loop-j, c.loop-j-test, c)
@@ -47,7 +47,7 @@ loop-j-preserved c =
     let loop = c.loop-j in
     let p = a.points.now in
     let g = a.guides.now in
-    let f = on_span p g a.n a.from loop.j (omega (arith, loop, c.loop-j-test, c)) c.requires.1.1 c.span-q.ensures c.get_vec-a.ensures c.get_vec-b.ensures c.param_at-t.ensures c.between.ensures c.frame-f.ensures in
+    let f = on_span p g a.n a.from loop.j (omega (arith, loop, c.loop-j-test, c)) c.requires.count_bound.1 c.span-q.ensures c.get_vec-a.ensures c.get_vec-b.ensures c.param_at-t.ensures c.between.ensures c.frame-f.ensures in
     (omega (arith, loop, c.loop-j-test, c), omega (arith, loop), wrote_turn _ _ _ 8 (λ j. length_positions a.kind p g a.n (a.from + j)) (λ j. length_normals a.kind p g a.n (a.from + j)) (λ j. length_tags a.first a.n (a.from + j)) _ _ loop.j (rw (c.spokes_at-own.ensures, f, c.tag_at.ensures) at c.put_sides-bounds.ensures) loop.invariant.2 loop.invariant.1)
 
 pub shape_of-positions : goal.shape_of-positions
