@@ -106,9 +106,9 @@ loop-from-preserved c =
     let write-one = c.write_one-s in
     let G = gives_got (job_of args.b.now args.h) (segments_of args.q.now) (far_by (place_of args.b.now args.h)) _ _ _ _ _ _ _ c.next_tube-next.ensures.1 c.in-Piece.is in
     let a = got_table (job_of args.b.now args.h) (segments_of args.q.now) (far_by (place_of args.b.now args.h)) _ _ _ _ _ _ G c.alphas_at-alphas.result c.alphas_at-alphas.ensures in
-    let k = write-one.auto.1.1.1.1.1.1.1.1 in (
+    let k = write-one.auto in (
       G.at,
       kept_then _ _ _ _ _ _ _ (omega arith) (omega arith) inv.1 c.next_tube-next.ensures.0,
-      (k.0 ∙ inv.2.0, (rw a at write-one.ensures.0) ∙ inv.2.1),
-      left_turn _ _ _ _ _ _ _ inv.3 _ _ G.left _ _ write-one.ensures.1 (record { positions = k.1.0; normals = k.1.1.0; tags = k.1.1.1.0; triangles = k.1.1.1.1.0; tubes = k.1.1.1.1.1.0; boxes = k.1.1.1.1.1.1.0 }) (got_long (job_of args.b.now args.h) (segments_of args.q.now) (far_by (place_of args.b.now args.h)) _ _ _ _ _ _ G),
+      (k.floats ∙ inv.2.0, (rw a at write-one.ensures.floats_unchanged) ∙ inv.2.1),
+      left_turn _ _ _ _ _ _ _ inv.3 _ _ G.left _ _ write-one.ensures.boxes_value (record { positions = k.positions; normals = k.normals; tags = k.tags; triangles = k.triangles; tubes = k.records; boxes = k.boxes }) (got_long (job_of args.b.now args.h) (segments_of args.q.now) (far_by (place_of args.b.now args.h)) _ _ _ _ _ _ G),
     )
