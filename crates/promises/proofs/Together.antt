@@ -7,6 +7,7 @@ use native.Mathlib.Omega.{arith}
 use lib.ListN.{length, take}
 use lib.Seq.{take_all}
 use Rattle.edges.specs.Sound.{Sound}
+use Rattle.edges.specs.Tube.{vertex_count, triangle_count}
 use Rattle.protein.specs.Layout.{head_of}
 use Rattle.job.proofs.Laws.{check_whole}
 use Rattle.tubes.specs.Tubes.{Tube}
@@ -95,7 +96,7 @@ past : (v t : ℕ) (us : List Tube) (k : ℕ) → length us ≤ k → words_at v
 unfolding words_at
 past v t [] k h = refl
 past v t (u ∷ us) zero h = absurd (omega arith)
-past v t (u ∷ us) (suc k) h = past _ _ us k (omega arith)
+past v t (u ∷ us) (suc k) h = past (v + vertex_count (size_of u)) (t + triangle_count (size_of u)) us k (omega arith)
 
 pub words : (s : List ℕ) (k : ℕ) (c c' : Scratch) (n m : Counts) (f : Five) (b b' : Buffers) → Plans s k c (Plan n f) c' → Builds s b (Mesh m) b'
     → (n ≡ m) × (k < m.tubes → Stands b'.outs.tubes (5 * k) 5 (five_words f)) × (m.tubes ≤ k → f ≡ no_words)

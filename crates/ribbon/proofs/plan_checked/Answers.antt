@@ -29,7 +29,7 @@ pub clear_scratch-requires : goal.clear_scratch-requires
 clear_scratch-requires c =
     let args = c.args in
     let q : short_scratch args.h (length args.words.now) (length args.floats.now) ≡ false = (sym c.is_short.ensures ∙ c.if-is_short.false) in
-    (c.requires.0.few_residues, omega (arith, long_words args.h _ _ q, c.count_all-sum.auto.1.1.1.1.0), long_floats args.h _ _ q)
+    (c.requires.0.few_residues, omega (arith, long_words args.h _ _ q, c.count_all-sum.auto.scratch), long_floats args.h _ _ q)
 
 pub returns-then-sum-gt1048576 : goal.returns-then-sum-gt1048576
 returns-then-sum-gt1048576 c =
