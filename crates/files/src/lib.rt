@@ -136,6 +136,14 @@ impl Source {
             Source::Named(_) => false,
         }
     }
+
+    // The descriptor that it is read by, which stays open while it is there.
+    pub fn descriptor(&self) -> i32 {
+        match self {
+            Source::Standard(rt) => rt.stdin().as_raw_fd(),
+            Source::Named(file) => file.as_raw_fd(),
+        }
+    }
 }
 
 // Where standard input stands in its file, as the system lists it.
