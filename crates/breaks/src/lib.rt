@@ -4,8 +4,7 @@ ghost use Rattle.std.specs.Prelude.{◌≡◌, ◌+◌, ◌*◌, ◌≤◌, ◌<
 ghost use Rattle.protein.specs.Layout.{Whole};
 ghost use Rattle.appearance.specs.Index.{Index};
 
-use files::say;
-use libc::STDERR_FILENO;
+use files::{STDERR_FILENO, say};
 use pdb_file::Next;
 use pdb_records::Record;
 use protein::Head;

@@ -5,10 +5,9 @@ mod left_out;
 mod quote;
 
 use fault::{Blame, blame_line};
-use files::say;
+use files::{STDERR_FILENO, say};
 use job::Refusal;
 use left_out::count_residues;
-use libc::STDERR_FILENO;
 use pdb_search::{Next, What, count_lines, next_line};
 use quote::say_bytes;
 

@@ -4,8 +4,7 @@ ghost use Rattle.std.specs.Prelude.{◌+◌, ◌*◌, ◌<◌, ◌≤◌, length
 ghost use Rattle.protein.specs.Layout.{Whole};
 
 use buffers::Counts;
-use files::say;
-use libc::STDERR_FILENO;
+use files::{STDERR_FILENO, say};
 use protein::Head;
 
 // The sides of a model, in angstrom.
