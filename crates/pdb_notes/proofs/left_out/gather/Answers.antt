@@ -16,8 +16,8 @@ pub returns-in_default : goal.returns-in_default
 returns-in_default c =
     let inv = c.loop-p.invariant in
     record {
-        gains = gathering_over _ _ _ _ _ _ _ _ _ _ inv (found_done c.args.w c.args.s.now c.loop-p.at c.loop-p.seen _ c.next_line-next.ensures c.in_default.is);
-        index = (inv.index, inv.grown);
+      gains = gathering_over _ _ _ _ _ _ _ _ _ _ inv (found_done c.args.w c.args.s.now c.loop-p.at c.loop-p.seen _ c.next_line-next.ensures c.in_default.is);
+      index = (inv.index, inv.grown);
     }
 
 pub slice_bounds-name_in-count : goal.slice_bounds-name_in-count
