@@ -3,7 +3,6 @@ use Prim.Native.Nat.{◌-◌}
 use Rattle.protein.specs.Job.{job_of}
 use Rattle.coils.specs.Coils.{covered_in}
 use Rattle.coils.proofs.Laws.{loose_few, loose_below, list_at, run_entered}
-use borrow.Author.Rules.{rules}
 use Rattle.coils.proofs.enter.Goals as goal
 
 pub extend-frames-requires : goal.extend-frames-requires

@@ -12,7 +12,6 @@ use Rattle.room.proofs.Laws.{long_words, long_floats, zeroed_words, zeroed_past}
 use Rattle.buffers.specs.Outs.{outs}
 use Rattle.ribbon.proofs.Written.{filled_of}
 use Rattle.ribbon.proofs.Answers.{many, few, mesh_is, room_is, tight_is, build_short, build_many, build_tight, build_mesh, room_for}
-use borrow.Author.Rules.{rules}
 use Rattle.ribbon.proofs.build_checked.Goals as goal
 
 pub returns-then-is_short : goal.returns-then-is_short

@@ -10,7 +10,6 @@ use Rattle.room.specs.Room.{short_scratch}
 use Rattle.ribbon.proofs.Laws.{kept_at_nine, swept, start_small, start_counted}
 use Rattle.room.proofs.Laws.{long_words, long_floats, zeroed_words}
 use Rattle.ribbon.proofs.Answers.{many, few, plan_is, plan_short, plan_many, plan_fine}
-use borrow.Author.Rules.{rules}
 use Rattle.ribbon.proofs.plan_checked.Goals as goal
 
 pub returns-then-is_short : goal.returns-then-is_short
