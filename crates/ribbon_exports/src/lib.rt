@@ -1,7 +1,7 @@
 // What the static library for C exports: a call for each of ribbon_c's, with its clauses. A slice is a pointer and a length (include/ribbon.h).
 #![tactic(auto)]
 
-ghost use Rattle.buffers.specs.Outs.{shown, held, holds};
+ghost use Rattle.buffers.specs.Outs.{outs, held, holds};
 ghost use Rattle.room.specs.Room.{buffers, scratch};
 ghost use Rattle.stl_reader.specs.Call.{lists};
 ghost use Rattle.tube_call.specs.Part.{PartFor};
@@ -82,8 +82,8 @@ pub extern "C" fn ribbon_write_stl(
     stl: &mut [u8],
     answer: &mut [u32; 4],
 )
-    ensures { WritesStlWords (shown positions normals tags triangles tubes boxes) (record { tubes = k; vertices = v; triangles = t })
-        stl.old answer.new stl.new }
+    ensures { WritesStlWords (outs positions.now normals.now tags.now triangles.now tubes.now boxes.now)
+        (record { tubes = k; vertices = v; triangles = t }) stl.old answer.new stl.new }
 {
     ribbon_c::ribbon_write_stl(
         positions, normals, tags, triangles, tubes, boxes, k, v, t, stl, answer,
