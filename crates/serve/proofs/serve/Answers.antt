@@ -53,7 +53,7 @@ pub shape_of-out-then-not-is_served : goal.shape_of-out-then-not-is_served
 shape_of-out-then-not-is_served c = c.out-then-not-is_served-1.given
 
 pub answer_next-requires : goal.answer_next-requires
-answer_next-requires c = (c.requires.0, c.is_served.ensures.0 (not-false _ c.if-not-is_served.false))
+answer_next-requires c = (c.requires.0, c.is_served.ensures.0 c.if-not-is_served.false)
 
 pub shape_of-positions : goal.shape_of-positions
 shape_of-positions c = c.positions-2-1.given

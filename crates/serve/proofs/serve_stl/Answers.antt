@@ -54,7 +54,7 @@ shape_of-out-then-not-is_mesh_served c = c.out-then-not-is_mesh_served-1.given
 pub answer_mesh-requires : goal.answer_mesh-requires
 answer_mesh-requires c =
     let served = rw c.own_mesh-own.ensures at c.is_mesh_served.ensures in
-    (c.requires.0, served.0 (not-false _ c.if-not-is_mesh_served.false))
+    (c.requires.0, served.0 c.if-not-is_mesh_served.false)
 
 pub shape_of-positions : goal.shape_of-positions
 shape_of-positions c = c.positions-2-1.given

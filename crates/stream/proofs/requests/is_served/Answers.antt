@@ -7,13 +7,13 @@ use Rattle.lists.proofs.Bools.{clash}
 use Rattle.stream.proofs.requests.is_served.Goals as goal
 
 pub returns-then-not-is_within : goal.returns-then-not-is_within
-returns-then-not-is_within c = not_so (λ w. clash (c.is_within.ensures.1 w.within) (not-true _ c.if-not-is_within.true))
+returns-then-not-is_within c = not_so (λ w. clash (c.is_within.ensures.1 w.within) c.if-not-is_within.true)
 
 pub returns-then-room-r : goal.returns-then-room-r
 returns-then-room-r c = not_so (λ w. omega (arith, c.if-room-r.true, w.fits))
 
 pub returns-then-not-is_known : goal.returns-then-not-is_known
-returns-then-not-is_known c = not_so (λ w. clash w.knows (sym c.is_known.ensures ∙ not-true _ c.if-not-is_known.true))
+returns-then-not-is_known c = not_so (λ w. clash w.knows (sym c.is_known.ensures ∙ c.if-not-is_known.true))
 
 pub returns : goal.returns
-returns c = (λ e. record { within = c.is_within.ensures.0 (not-false _ c.if-not-is_within.false); fits = omega (arith, c.if-room-r.false); knows = sym c.is_known.ensures ∙ not-false _ c.if-not-is_known.false }, λ w. refl)
+returns c = (λ e. record { within = c.is_within.ensures.0 c.if-not-is_within.false; fits = omega (arith, c.if-room-r.false); knows = sym c.is_known.ensures ∙ c.if-not-is_known.false }, λ w. refl)
