@@ -1,5 +1,7 @@
 // What every program here reads and writes with: a read that fails is told apart from the end of the input, and each program says at its end whether all went
 // well. What a cut input gives is no whole file, and a part of a protein must never look like the whole of it.
+#![tactic(auto)]
+
 ghost use Rattle.std.specs.Prelude.{◌≤◌, length, IfOk};
 
 use std::env::{Env, FillError};

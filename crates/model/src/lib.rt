@@ -1,6 +1,8 @@
 // From the bytes of a PDB file to a binary STL file on standard output, in lent room: read_pdb, build, the scaling, and the file block by block. It adds no rule to
 // those. Nothing is written before the last refusal is past, so a refused file leaves no part of a model. What was made, or why nothing was, is told on standard
 // error.
+#![tactic(auto)]
+
 ghost use Rattle.std.specs.Prelude.{◌≡◌, ◌+◌, ◌*◌, ◌/◌, ◌≤◌, ◌<◌, length};
 ghost use Rattle.protein.specs.Layout.{Whole};
 ghost use Rattle.facets.specs.Facets.{Drawn};
@@ -72,12 +74,7 @@ fn send_facets(
 }
 
 // Writes the whole file, or answers the system's number for why not.
-fn send_file(
-    to: Stdout,
-    positions: &[f32],
-    triangles: &[u32],
-    block: &mut [u8],
-) -> Result<(), i32>
+fn send_file(to: Stdout, positions: &[f32], triangles: &[u32], block: &mut [u8]) -> Result<(), i32>
     requires { Drawn positions.now triangles.now × (length triangles.now ≤ 6291456) × (50000 ≤ length block.old) }
 {
     facets::put_head(block, (triangles.len() / 3) as u32);

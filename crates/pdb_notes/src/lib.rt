@@ -1,5 +1,7 @@
 // What a person is told of a PDB file, on standard error: what was read, what was left out, and where a refused file is at fault. None of it is a refusal, and no
 // answer depends on it: a line that begins with `note:` goes with a job that was written.
+#![tactic(auto)]
+
 mod fault;
 mod left_out;
 mod quote;

@@ -7,6 +7,7 @@ use native.Mathlib.Omega.{arith}
 use lib.ListN.{length, take}
 use lib.Seq.{take_all}
 use Rattle.edges.specs.Sound.{Sound}
+use Rattle.edges.specs.Tube.{vertex_count, triangle_count}
 use Rattle.protein.specs.Layout.{head_of}
 use Rattle.job.proofs.Laws.{check_whole}
 use Rattle.tubes.specs.Tubes.{Tube}
@@ -24,7 +25,7 @@ use Rattle.promises.specs.Meshes.{protein_in, tubes_in, Buildable, Shorter, Room
 use Rattle.promises.proofs.Tubes.{list_long_of, each_most}
 use Rattle.promises.proofs.Told.{built_is}
 use Rattle.promises.proofs.Checks.{enough_more}
-use Rattle.promises.proofs.Answers.{meshed, built, unbuilt, for-room}
+use Rattle.promises.proofs.Answers.{meshed, built, unbuilt, for_room}
 use Rattle.promises.proofs.Plans.{planned}
 use Rattle.promises.proofs.Parts as parts
 
@@ -85,7 +86,7 @@ then_refused s k c c' n f b b' r P N h B =
 pub room_then : (s : List ℕ) (b b' d d' : Buffers) (k v t : ℕ) (r : Built) → Builds s b (NoMesh (NoRoom k v t)) b' → NoLess b.scratch d.scratch
     → RoomFor d.outs (record { tubes = k; vertices = v; triangles = t }) → Builds s d r d' → r ≡ Mesh (record { tubes = k; vertices = v; triangles = t })
 room_then s b b' d d' k v t r B N room D =
-    let M = for-room s b b' k v t B in
+    let M = for_room s b b' k v t B in
     let n : Counts = record { tubes = k; vertices = v; triangles = t } in
     let e : n ≡ counts_of (tubes_in s) = rw (M.1.0, M.1.1, M.1.2) in
     built_is D ∙ built s d (still s b.scratch d.scratch N M.0) (subst (RoomFor d.outs) e room) ∙ ap Mesh (sym e)
@@ -95,7 +96,7 @@ past : (v t : ℕ) (us : List Tube) (k : ℕ) → length us ≤ k → words_at v
 unfolding words_at
 past v t [] k h = refl
 past v t (u ∷ us) zero h = absurd (omega arith)
-past v t (u ∷ us) (suc k) h = past _ _ us k (omega arith)
+past v t (u ∷ us) (suc k) h = past (v + vertex_count (size_of u)) (t + triangle_count (size_of u)) us k (omega arith)
 
 pub words : (s : List ℕ) (k : ℕ) (c c' : Scratch) (n m : Counts) (f : Five) (b b' : Buffers) → Plans s k c (Plan n f) c' → Builds s b (Mesh m) b'
     → (n ≡ m) × (k < m.tubes → Stands b'.outs.tubes (5 * k) 5 (five_words f)) × (m.tubes ≤ k → f ≡ no_words)

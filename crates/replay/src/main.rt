@@ -1,4 +1,6 @@
 // Replays requests that were recorded with the oracle's answers, with no Rust at hand, and says which is answered otherwise.
+#![tactic(auto)]
+
 use files::{Filled, STDOUT_FILENO, Source};
 use serve::{End, Run};
 use stream::sink::{Mode, Sink};

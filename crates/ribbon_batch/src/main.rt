@@ -1,5 +1,7 @@
 // The program `ribbon-batch`: answers requests on standard input, one after the other, until it ends. Where it does not end behind a request, or an answer cannot
 // be written, it says so on standard error.
+#![tactic(auto)]
+
 use files::{Source, say};
 use serve::End;
 use stream::sink::{Mode, Sink};

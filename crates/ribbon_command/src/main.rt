@@ -1,5 +1,7 @@
 // The program behind `ribbon`: reads a PDB file, the one that is named or standard input, and writes its model, a binary STL file, to standard output. Its words
 // are ROOM, which is large where the system gives it a long stack and small where not, the scale in millimetres for an angstrom, and the file.
+#![tactic(auto)]
+
 ghost use Rattle.std.specs.Prelude.{◌+◌, ◌≤◌, ◌≡◌, length, IfSome};
 ghost use Rattle.buffers.specs.Outs.{outs};
 ghost use Rattle.room.specs.Room.{buffers};

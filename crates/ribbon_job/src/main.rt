@@ -1,5 +1,7 @@
 // The program `ribbon-job`: reads a PDB file, the one that is named or standard input, and writes its job to standard output. What was read, or why there is no
 // job, it says on standard error.
+#![tactic(auto)]
+
 use files::Source;
 use pdb_reader::Read;
 use std::io::Stdout;

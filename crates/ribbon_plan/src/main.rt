@@ -1,4 +1,6 @@
 // The program `ribbon-plan`: reads a job, from the file that is named or from standard input, and prints its counts and its tubes, or the refusal.
+#![tactic(auto)]
+
 use files::Source;
 use promises::Planned;
 use std::io::Stdout;
@@ -28,7 +30,13 @@ fn print_tube(to: Stdout, job: &[u8], k: usize, words: &mut [u32], floats: &mut 
     }
 }
 
-fn print_tubes(to: Stdout, job: &[u8], tubes: usize, words: &mut [u32], floats: &mut [f32]) -> bool {
+fn print_tubes(
+    to: Stdout,
+    job: &[u8],
+    tubes: usize,
+    words: &mut [u32],
+    floats: &mut [f32],
+) -> bool {
     let mut k = 0;
     while k < tubes {
         if !print_tube(to, job, k, words, floats) {

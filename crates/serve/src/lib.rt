@@ -1,4 +1,6 @@
 // Reads requests to the ribbon builder and has them answered: what `ribbon_batch` and `replay` share.
+#![tactic(auto)]
+
 ghost use Rattle.std.specs.Prelude.{◌≡◌, ◌+◌, ◌<◌, length};
 ghost use Rattle.serve.specs.Heads.{Bounded, Answerable};
 ghost use Rattle.stl_replies.specs.Mesh.{mesh_of};

@@ -1,5 +1,7 @@
 // Writes a mesh as a binary STL file into lent bytes (02 §4). Nothing is demanded of whoever calls it; what it promises, `WritesStl`, stands in specs/Call.
-ghost use Rattle.buffers.specs.Outs.{shown};
+#![tactic(auto)]
+
+ghost use Rattle.buffers.specs.Outs.{outs};
 ghost use Rattle.stl_writer.specs.Call.{WritesStl};
 
 use buffers::Counts;
@@ -23,7 +25,7 @@ pub fn write_stl(
     c: Counts,
     out: &mut [u8],
 ) -> Wrote
-    ensures { WritesStl 8 8 (shown positions normals tags triangles tubes boxes) c out.old result out.new }
+    ensures { WritesStl 8 8 (outs positions.now normals.now tags.now triangles.now tubes.now boxes.now) c out.old result out.new }
 {
     if !consistency::is_consistent(
         c,

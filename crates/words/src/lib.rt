@@ -1,5 +1,7 @@
 // The words that a person reads: of each refusal two lines, what is wrong, with its line, chain, segment or atom, and what to do about it, in one place for all
 // programs. They go to standard error, behind the line with the refusal's number and what it carries.
+#![tactic(auto)]
+
 use files::{STDERR_FILENO, say};
 use job::Refusal;
 

@@ -13,7 +13,7 @@ pub add_name-n-requires : goal.add_name-n-requires
 add_name-n-requires c = c.loop-r.invariant.1
 
 pub loop-r-smaller : goal.loop-r-smaller
-loop-r-smaller c = let o = stepped_got _ _ _ _ _ _ _ c.step-next.ensures c.in-Got.is in omega (arith, o.more, o.within)
+loop-r-smaller c = let o = stepped_got c.args.s.now c.loop-r.at c.loop-r.seen _ _ _ _ c.step-next.ensures c.in-Got.is in omega (arith, o.more, o.within)
 
 pub loop-r-preserved : goal.loop-r-preserved
-loop-r-preserved c = let o = stepped_got _ _ _ _ _ _ _ c.step-next.ensures c.in-Got.is in (o.within, c.add_name-n.ensures)
+loop-r-preserved c = let o = stepped_got c.args.s.now c.loop-r.at c.loop-r.seen _ _ _ _ c.step-next.ensures c.in-Got.is in (o.within, c.add_name-n.ensures)

@@ -18,7 +18,7 @@ pub returns-then-not-record_fits : goal.returns-then-not-record_fits
 returns-then-not-record_fits c =
     let a = c.args in
     let l = c.loop-i in
-    sym (record_lost a.tubes.now a.triangles.now a.c l.vertex l.triangle l.i l.invariant c.loop-i-test.true (sym c.record_fits.ensures ∙ not-true c.record_fits.result c.if-not-record_fits.true))
+    sym (record_lost a.tubes.now a.triangles.now a.c l.vertex l.triangle l.i l.invariant c.loop-i-test.true (sym c.record_fits.ensures ∙ c.if-not-record_fits.true))
 
 pub overflow_cast-n : goal.overflow_cast-n
 overflow_cast-n c = omega (arith, c.type_inv.tubes (5 * c.loop-i.i + 2))
@@ -27,14 +27,14 @@ pub triangle_count-requires : goal.triangle_count-requires
 triangle_count-requires c =
     let a = c.args in
     let l = c.loop-i in
-    let z = record_means a.tubes.now l.vertex l.triangle l.i (sym c.record_fits.ensures ∙ not-false c.record_fits.result c.if-not-record_fits.false) in
+    let z = record_means a.tubes.now l.vertex l.triangle l.i (sym c.record_fits.ensures ∙ c.if-not-record_fits.false) in
     omega (arith, z.2)
 
 pub overflow_add-end : goal.overflow_add-end
 overflow_add-end c =
     let a = c.args in
     let l = c.loop-i in
-    let z = record_means a.tubes.now l.vertex l.triangle l.i (sym c.record_fits.ensures ∙ not-false c.record_fits.result c.if-not-record_fits.false) in
+    let z = record_means a.tubes.now l.vertex l.triangle l.i (sym c.record_fits.ensures ∙ c.if-not-record_fits.false) in
     omega (arith, z.1, z.2, c.triangle_count.ensures, triangle_count_lem (residues_at a.tubes.now l.i) z.1, l.invariant.within, c.requires.1)
 
 pub returns-then-most-end : goal.returns-then-most-end
@@ -47,14 +47,14 @@ pub vertex_count-span-requires : goal.vertex_count-span-requires
 vertex_count-span-requires c =
     let a = c.args in
     let l = c.loop-i in
-    let z = record_means a.tubes.now l.vertex l.triangle l.i (sym c.record_fits.ensures ∙ not-false c.record_fits.result c.if-not-record_fits.false) in
+    let z = record_means a.tubes.now l.vertex l.triangle l.i (sym c.record_fits.ensures ∙ c.if-not-record_fits.false) in
     omega (arith, z.2)
 
 pub overflow_add-past : goal.overflow_add-past
 overflow_add-past c =
     let a = c.args in
     let l = c.loop-i in
-    let z = record_means a.tubes.now l.vertex l.triangle l.i (sym c.record_fits.ensures ∙ not-false c.record_fits.result c.if-not-record_fits.false) in
+    let z = record_means a.tubes.now l.vertex l.triangle l.i (sym c.record_fits.ensures ∙ c.if-not-record_fits.false) in
     omega (arith, z.1, z.2, c.vertex_count-span.ensures, vertex_count_lem (residues_at a.tubes.now l.i) z.1, l.invariant.inside, c.requires.2)
 
 pub returns-then-all-past : goal.returns-then-all-past
@@ -67,7 +67,7 @@ pub corners_in-requires : goal.corners_in-requires
 corners_in-requires c =
     let a = c.args in
     let l = c.loop-i in
-    let z = record_means a.tubes.now l.vertex l.triangle l.i (sym c.record_fits.ensures ∙ not-false c.record_fits.result c.if-not-record_fits.false) in
+    let z = record_means a.tubes.now l.vertex l.triangle l.i (sym c.record_fits.ensures ∙ c.if-not-record_fits.false) in
     (omega (arith, c.if-all-past.false, c.requires.2), omega (arith, take_le (3 * (l.triangle + c.triangle_count.result) - 3 * l.triangle) (drop (3 * l.triangle) a.triangles.now), z.1, z.2, c.triangle_count.ensures, triangle_count_lem (residues_at a.tubes.now l.i) z.1))
 
 pub returns-then-not-corners_in : goal.returns-then-not-corners_in
@@ -76,8 +76,8 @@ returns-then-not-corners_in c =
     let l = c.loop-i in
     let v = c.vertex_count-span in
     let t = c.triangle_count in
-    let fits = sym c.record_fits.ensures ∙ not-false c.record_fits.result c.if-not-record_fits.false in
-    sym (corners_lost a.tubes.now a.triangles.now a.c l.vertex l.triangle l.i l.invariant (l.vertex + v.result) (l.triangle + t.result) (omega (arith, v.ensures)) (omega (arith, t.ensures)) fits (sym c.corners_in.ensures ∙ not-true c.corners_in.result c.if-not-corners_in.true) c.loop-i-test.true)
+    let fits = sym c.record_fits.ensures ∙ c.if-not-record_fits.false in
+    sym (corners_lost a.tubes.now a.triangles.now a.c l.vertex l.triangle l.i l.invariant (l.vertex + v.result) (l.triangle + t.result) (omega (arith, v.ensures)) (omega (arith, t.ensures)) fits (sym c.corners_in.ensures ∙ c.if-not-corners_in.true) c.loop-i-test.true)
 
 pub loop-i-preserved : goal.loop-i-preserved
 loop-i-preserved c =
@@ -85,8 +85,8 @@ loop-i-preserved c =
     let l = c.loop-i in
     let v = c.vertex_count-span in
     let t = c.triangle_count in
-    let fits = sym c.record_fits.ensures ∙ not-false c.record_fits.result c.if-not-record_fits.false in
-    let own = sym c.corners_in.ensures ∙ not-false c.corners_in.result c.if-not-corners_in.false in
+    let fits = sym c.record_fits.ensures ∙ c.if-not-record_fits.false in
+    let own = sym c.corners_in.ensures ∙ c.if-not-corners_in.false in
     reached_more a.tubes.now a.triangles.now a.c l.vertex l.triangle l.i l.invariant (l.vertex + v.result) (l.triangle + t.result) (omega (arith, v.ensures)) (omega (arith, t.ensures)) fits own c.loop-i-test.true c.if-most-end.false c.if-all-past.false
 
 pub returns-then-vertex-c : goal.returns-then-vertex-c

@@ -15,7 +15,7 @@ overflow_mul-t c = omega (arith, c.requires.alphas_bound.1, c.requires.alphas_bo
 
 pub tube_triangles-requires : goal.tube_triangles-requires
 tube_triangles-requires c =
-    let p = c.requires.1 in record { n_in_bounds = omega (arith, c.requires.alphas_bound.2.triangles); le_n = (c.requires.in_bounds.0, omega (arith, c.requires.alphas_bound.0)) }
+    record { n_in_bounds = omega (arith, c.requires.alphas_bound.2.triangles); le_n = (c.requires.in_bounds.0, omega (arith, c.requires.alphas_bound.0)) }
 
 pub overflow_mul-k-2 : goal.overflow_mul-k-2
 overflow_mul-k-2 c = omega (arith, c.requires.alphas_bound.2.tubes, c.well_formed)

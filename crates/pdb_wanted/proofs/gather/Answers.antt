@@ -16,11 +16,11 @@ pub want_ends-n-requires : goal.want_ends-n-requires
 want_ends-n-requires c = c.loop-n.invariant.1
 
 pub loop-n-smaller : goal.loop-n-smaller
-loop-n-smaller c = let o = stepped_got _ _ _ _ _ _ _ c.step-next.ensures c.in-Got.is in
+loop-n-smaller c = let o = stepped_got c.args.s.now c.loop-n.from c.loop-n.model _ _ _ _ c.step-next.ensures c.in-Got.is in
     omega (arith, o.more, o.within)
 
 pub loop-n-preserved : goal.loop-n-preserved
-loop-n-preserved c = let o = stepped_got _ _ _ _ _ _ _ c.step-next.ensures c.in-Got.is in
+loop-n-preserved c = let o = stepped_got c.args.s.now c.loop-n.from c.loop-n.model _ _ _ _ c.step-next.ensures c.in-Got.is in
     (o.within, c.want_ends-n.ensures)
 
 pub returns : goal.returns

@@ -1,7 +1,7 @@
 use Prim.Native.Nat.{◌≤◌, ◌-◌, ◌+◌}
 use mathlib.Core.Bool.{cond}
 use mathlib.Core.Path.{◌≡◌}
-use mathlib.Core.Logic.{⊎_elim}
+use Rattle.segments.proofs.cover.Goals.{then-t-from-ne0, else-t-from-ne0}
 use lib.ListN.{get_or}
 use native.Mathlib.Omega.{arith}
 use borrow.Author.Rules.{rules}
@@ -29,10 +29,10 @@ bounds-t-base c = omega (arith, c.loop-i.invariant.1.size)
 pub loop-i-preserved : goal.loop-i-preserved
 loop-i-preserved c =
     let pre = c.requires in
-    ⊎_elim
-    (λ x. (omega arith, rw x.1 (cover_yes _ _ _ c.args.n _ _ c.loop-i.invariant.1 (omega arith) pre.0 pre.1 x.0.taken)))
-    (λ x. (omega arith, rw x.1 (cover_no _ _ _ c.args.n _ _ c.loop-i.invariant.1 (omega arith) pre.0 pre.1 x.0.left)))
-    c.if-t-from-ne0.branch
+    elim c.if-t-from-ne0.branch [
+      | then-t-from-ne0 w ↦ (omega arith, rw w.t-is (cover_yes _ _ _ c.args.n _ _ c.loop-i.invariant.1 (omega arith) pre.0 pre.1 w.if-t-from-ne0.true))
+      | else-t-from-ne0 w ↦ (omega arith, rw w.t-is (cover_no _ _ _ c.args.n _ _ c.loop-i.invariant.1 (omega arith) pre.0 pre.1 w.if-t-from-ne0.false))
+    ]
 
 pub shape_of-t : goal.shape_of-t
 shape_of-t c = c.loop-i.invariant.1.size

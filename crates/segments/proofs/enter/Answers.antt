@@ -38,11 +38,11 @@ returns-then-not-is_shown c =
     let args = c.args in
     let mark = c.mark-m in
     let pre = c.requires in
-    entered_none args.b.now args.h _ _ _ _ mark.ensures.2 (λ i kind. tubes_hidden args.b.now args.h args.g _ _ _ c.requires.whole.2 mark.ensures.2 c.requires.chains.0 _ mark.ensures.0 i kind c.if-m-lt2.false (first_shown args.b.now args.h args.g _ _ _ c.requires.whole.2 mark.ensures.2 c.requires.chains.0 _ mark.ensures.0 (5 * args.h.residues) (5 * args.h.residues + mark.result) c.first_frame-first.result refl refl c.if-m-lt2.false c.first_frame-first.ensures _ c.is_shown.ensures ∙ not-true _ c.if-not-is_shown.true))
+    entered_none args.b.now args.h _ _ _ _ mark.ensures.2 (λ i kind. tubes_hidden args.b.now args.h args.g _ _ _ c.requires.whole.2 mark.ensures.2 c.requires.chains.0 _ mark.ensures.0 i kind c.if-m-lt2.false (first_shown args.b.now args.h args.g _ _ _ c.requires.whole.2 mark.ensures.2 c.requires.chains.0 _ mark.ensures.0 (5 * args.h.residues) (5 * args.h.residues + mark.result) c.first_frame-first.result refl refl c.if-m-lt2.false c.first_frame-first.ensures _ c.is_shown.ensures ∙ c.if-not-is_shown.true))
 
 pub returns : goal.returns
 returns c =
     let args = c.args in
     let mark = c.mark-m in
     let pre = c.requires in
-    entered_some args.b.now args.h args.g _ _ _ c.requires.whole.2 mark.ensures.2 c.requires.chains.0 _ mark.ensures.0 mark.ensures.1 c.if-m-lt2.false (first_shown args.b.now args.h args.g _ _ _ c.requires.whole.2 mark.ensures.2 c.requires.chains.0 _ mark.ensures.0 (5 * args.h.residues) (5 * args.h.residues + mark.result) c.first_frame-first.result refl refl c.if-m-lt2.false c.first_frame-first.ensures _ c.is_shown.ensures ∙ not-false _ c.if-not-is_shown.false)
+    entered_some args.b.now args.h args.g _ _ _ c.requires.whole.2 mark.ensures.2 c.requires.chains.0 _ mark.ensures.0 mark.ensures.1 c.if-m-lt2.false (first_shown args.b.now args.h args.g _ _ _ c.requires.whole.2 mark.ensures.2 c.requires.chains.0 _ mark.ensures.0 (5 * args.h.residues) (5 * args.h.residues + mark.result) c.first_frame-first.result refl refl c.if-m-lt2.false c.first_frame-first.ensures _ c.is_shown.ensures ∙ c.if-not-is_shown.false)

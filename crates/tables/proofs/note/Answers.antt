@@ -7,7 +7,7 @@ use borrow.Author.Rules.{rules}
 use Rattle.tables.proofs.note.Goals as goal
 
 pub returns-then-not-is_wanted : goal.returns-then-not-is_wanted
-returns-then-not-is_wanted c = turn_miss _ _ _ _ _ _ _ _ _ (fill_start _ _ _ _ c.requires.by_index) (sym c.is_wanted.ensures ∙ not-true _ c.if-not-is_wanted.true)
+returns-then-not-is_wanted c = turn_miss _ _ _ _ _ _ _ _ _ (fill_start _ _ _ _ c.requires.by_index) (sym c.is_wanted.ensures ∙ c.if-not-is_wanted.true)
 
 pub returns-then-r-residues : goal.returns-then-r-residues
 returns-then-r-residues c = turn_out _ _ _ _ _ _ _ _ _ (fill_start _ _ _ _ c.requires.by_index) (λ i l e. omega (arith, c.if-r-residues.true, c.residue-r.ensures))
@@ -22,4 +22,4 @@ pub returns : goal.returns
 returns c =
     let pre = c.requires in
     let left = c.if-r-residues.false in
-    turn_hit _ _ _ _ _ _ _ _ _ (fill_start _ _ _ _ c.requires.by_index) _ (omega (arith, left, c.if-residues-r.false, c.requires.whole.2, c.requires.whole.3)) c.residue-r.ensures left (omega (arith, left, c.if-residues-r.false)) (sym c.is_kept.ensures ∙ c.if-is_kept.false) (sym c.is_wanted.ensures ∙ not-false _ c.if-not-is_wanted.false)
+    turn_hit _ _ _ _ _ _ _ _ _ (fill_start _ _ _ _ c.requires.by_index) _ (omega (arith, left, c.if-residues-r.false, c.requires.whole.2, c.requires.whole.3)) c.residue-r.ensures left (omega (arith, left, c.if-residues-r.false)) (sym c.is_kept.ensures ∙ c.if-is_kept.false) (sym c.is_wanted.ensures ∙ c.if-not-is_wanted.false)

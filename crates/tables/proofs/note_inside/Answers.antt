@@ -44,7 +44,7 @@ returns-then-not-full c =
     let pre = c.requires in
     let J = job_of args.b.now args.h in
     let role = c.role-role.ensures in
-    filling_skip (job_of args.b.now args.h) args.g args.full args.residues args.seen args.alphas args.oxygens args.a _ c.requires.filling (no_alpha J args.g args.a (λ e. omega arith)) (λ e. clash e (not-true _ c.if-not-full.true))
+    filling_skip (job_of args.b.now args.h) args.g args.full args.residues args.seen args.alphas args.oxygens args.a _ c.requires.filling (no_alpha J args.g args.a (λ e. omega arith)) (λ e. clash e c.if-not-full.true)
 
 pub returns-then-role-ne2 : goal.returns-then-role-ne2
 returns-then-role-ne2 c =
@@ -64,4 +64,4 @@ returns c =
     let own : In args.residues (J.residue args.a) = c.requires.a_value.1 args.a c.requires.whole.1 c.requires.a_value.0 (omega arith) in
     let here = subst (λ (k : ℕ). In args.residues k) (sym residue) own in
     let is : J.role args.a ≡ 2 = omega arith in
-    filling_oxygen (job_of args.b.now args.h) args.g args.full args.residues args.seen args.alphas args.oxygens args.a _ c.requires.filling _ residue here c.requires.whole.4 c.requires.whole.2 c.requires.whole.3 (not-false _ c.if-not-full.false) (no_alpha J args.g args.a (λ e. omega arith)) (oxygen_wanted J args.g args.a is c.requires.a_value.0)
+    filling_oxygen (job_of args.b.now args.h) args.g args.full args.residues args.seen args.alphas args.oxygens args.a _ c.requires.filling _ residue here c.requires.whole.4 c.requires.whole.2 c.requires.whole.3 c.if-not-full.false (no_alpha J args.g args.a (λ e. omega arith)) (oxygen_wanted J args.g args.a is c.requires.a_value.0)

@@ -8,7 +8,7 @@ use borrow.Author.Rules.{rules}
 use Rattle.tables.specs.Wants.{gives, chain_of}
 use Rattle.protein.specs.Job.{job_of}
 use Rattle.scratch.specs.Scratch.{Filled}
-use mathlib.Core.Logic.{⊎_elim}
+use Rattle.tables.proofs.to_chains.Goals.{then-a-ne0, else-a-ne0}
 use Rattle.lists.proofs.Searches.{last_le}
 use Rattle.tables.proofs.to_chains.Goals as goal
 
@@ -41,10 +41,10 @@ loop-i-preserved c =
     let args = c.args in
     let loop = c.loop-i in
     let q = grow_at _ _ _ _ loop.invariant.1 ∙ c.requires.by_index loop.i (omega arith) in
-    ⊎_elim
-    (λ x. (omega arith, rw x.2 (grow_set _ _ _ _ loop.invariant.1 _ (omega arith) (ap (λ (k : ℕ). k + 1) x.1.ensures.0 ∙ code_some (job_of args.b.now args.h) _ _ q x.0.taken))))
-    (λ x. (omega arith, rw x.1 (grow_same _ _ _ _ loop.invariant.1 (code_none (job_of args.b.now args.h) _ _ q x.0.left))))
-    c.if-a-ne0.branch
+    elim c.if-a-ne0.branch [
+      | then-a-ne0 w ↦ (omega arith, rw w.t-is (grow_set _ _ _ _ loop.invariant.1 _ (omega arith) (ap (λ (k : ℕ). k + 1) w.chain.ensures.0 ∙ code_some (job_of args.b.now args.h) _ _ q w.if-a-ne0.true)))
+      | else-a-ne0 w ↦ (omega arith, rw w.t-is (grow_same _ _ _ _ loop.invariant.1 (code_none (job_of args.b.now args.h) _ _ q w.if-a-ne0.false)))
+    ]
 
 pub shape_of-t : goal.shape_of-t
 shape_of-t c = c.loop-i.invariant.1.size

@@ -1,6 +1,6 @@
 use Prim.Native.Nat.{◌≤◌, ◌-◌}
 use mathlib.Core.Path.{◌≡◌, refl}
-use mathlib.Core.Logic.{⊎_elim}
+use Rattle.tubes.proofs.list_frames.Goals.{then-t-table-ne0, else-t-table-ne0}
 use lib.ListN.{length}
 use native.Mathlib.Omega.{arith}
 use borrow.Author.Rules.{rules}
@@ -29,10 +29,10 @@ pub loop-k-preserved : goal.loop-k-preserved
 loop-k-preserved c =
     let inv = c.loop-k.invariant in
     let i = inv.1.1 in
-    ⊎_elim
-    (λ x. let h = frames_yes _ _ _ _ _ _ _ _ i.1.1 i.1.0 inv.0 (omega arith) (omega arith) (omega arith) (omega arith) x.0.taken in (omega arith, (omega arith, (omega (arith, x.2), rw (x.1, x.2) h))))
-    (λ x. let h = frames_no _ _ _ _ _ _ _ _ i.1.1 i.1.0 inv.0 (omega arith) (omega arith) (omega arith) (omega arith) x.0.left in (omega arith, (omega arith, (omega (arith, x.2), rw (x.1, x.2) h))))
-    c.if-t-table-ne0.branch
+    elim c.if-t-table-ne0.branch [
+      | then-t-table-ne0 w ↦ let h = frames_yes _ _ _ _ _ _ _ _ i.1.1 i.1.0 inv.0 (omega arith) (omega arith) (omega arith) (omega arith) w.if-t-table-ne0.true in (omega arith, (omega arith, (omega (arith, w.m-is), rw (w.t-is, w.m-is) h)))
+      | else-t-table-ne0 w ↦ let h = frames_no _ _ _ _ _ _ _ _ i.1.1 i.1.0 inv.0 (omega arith) (omega arith) (omega arith) (omega arith) w.if-t-table-ne0.false in (omega arith, (omega arith, (omega (arith, w.m-is), rw (w.t-is, w.m-is) h)))
+    ]
 
 pub shape_of-t : goal.shape_of-t
 shape_of-t c = c.loop-k.invariant.1.1.1.1.size

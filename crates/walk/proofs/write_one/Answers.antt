@@ -80,4 +80,4 @@ pub returns : goal.returns
 returns c =
     let args = c.args in
     let pre = c.requires in
-    let write-tube = c.write_tube in record { floats_unchanged = drop_tail (6 * length args.part.now) (6 * length args.alphas.now) write-tube.new.1.1.1.1.1.1.1.1.1.0 args.floats.now (write-tube.auto.1.1.1.1.1.1.1.1.1.0 ∙ simp length-take (omega (arith, alphas_end (job_of args.b.now args.h) args.source args.alphas.now args.part.now c.requires.in_bounds.1 c.requires.in_bounds.2 (omega (arith, c.requires.in_bounds.0)), c.requires.whole.3))) (omega (arith, alphas_end (job_of args.b.now args.h) args.source args.alphas.now args.part.now c.requires.in_bounds.1 c.requires.in_bounds.2 (omega (arith, c.requires.in_bounds.0)))); boxes_value = wrote_as (protein_of args.b.now args.h) args.source _ args.part.now _ _ _ _ _ _ (alphas_map (job_of args.b.now args.h) args.source args.alphas.now args.part.now c.requires.in_bounds.1 c.requires.in_bounds.2 (omega (arith, c.requires.in_bounds.0))) (oxygens_map (job_of args.b.now args.h) args.source args.oxygens.now args.part.now c.requires.in_bounds.1 c.requires.in_bounds.3 (omega (arith, c.requires.in_bounds.0))) write-tube.ensures c.add_tube.ensures }
+    let write-tube = c.write_tube in record { floats_unchanged = drop_tail (6 * length args.part.now) (6 * length args.alphas.now) write-tube.new.course args.floats.now (write-tube.auto.course ∙ simp length-take (omega (arith, alphas_end (job_of args.b.now args.h) args.source args.alphas.now args.part.now c.requires.in_bounds.1 c.requires.in_bounds.2 (omega (arith, c.requires.in_bounds.0)), c.requires.whole.3))) (omega (arith, alphas_end (job_of args.b.now args.h) args.source args.alphas.now args.part.now c.requires.in_bounds.1 c.requires.in_bounds.2 (omega (arith, c.requires.in_bounds.0)))); boxes_value = wrote_as (protein_of args.b.now args.h) args.source _ args.part.now _ _ _ _ _ _ (alphas_map (job_of args.b.now args.h) args.source args.alphas.now args.part.now c.requires.in_bounds.1 c.requires.in_bounds.2 (omega (arith, c.requires.in_bounds.0))) (oxygens_map (job_of args.b.now args.h) args.source args.oxygens.now args.part.now c.requires.in_bounds.1 c.requires.in_bounds.3 (omega (arith, c.requires.in_bounds.0))) write-tube.ensures c.add_tube.ensures }

@@ -1,4 +1,5 @@
 use mathlib.Core.Path.{◌≡◌, sym, ap, ◌∙◌, subst}
+use mathlib.Core.Bool.{true}
 use lib.Dec.{T}
 use lib.Ieee.{Float, binary32, of_bits, to_bits, fits}
 use lib.Ieee.Bits.{of_bits-to_bits}
@@ -8,8 +9,8 @@ use Rattle.floats.proofs.Written.{no_nan_of, value_of, nan_of, zero_over_zero, b
 use borrow.Author.Rules.{rules}
 use Rattle.floats.proofs.root.square_root.Goals as goal
 
-held : (c : tie.Start) → T (fits binary32 c.args.x)
-held c = subst T (sym c.well-formed.0.1) tt
+held : (x : Float) → fits binary32 x ≡ true → T (fits binary32 x)
+held x e = subst T (sym e) tt
 
 back : (x : Float) → T (fits binary32 x) → to_bits binary32 (root binary32 (of_bits binary32 (to_bits binary32 x))) ≡ to_bits binary32 (root binary32 x)
 back x t = ap (λ (y : Float). to_bits binary32 (root binary32 y)) (of_bits-to_bits binary32 x t)
@@ -23,14 +24,14 @@ float_to_bits-x c = same_no_nan c.args.x c.if-x.false
 pub returns-then-r-eq2143289344 : goal.returns-then-r-eq2143289344
 returns-then-r-eq2143289344 c =
     let p = c.args.x in
-    zero_over_zero ∙ sym (nan_of binary32 (root binary32 p) (root_fits binary32 p (held c)) (sym (c.root_bits-r.ensures ∙ back p (held c)) ∙ c.if-r-eq2143289344.true ∙ sym bits_nan))
+    zero_over_zero ∙ sym (nan_of binary32 (root binary32 p) (root_fits binary32 p (held p c.well_formed.0.1)) (sym (c.root_bits-r.ensures ∙ back p (held p c.well_formed.0.1)) ∙ c.if-r-eq2143289344.true ∙ sym bits_nan))
 
 pub float_from_bits-result : goal.float_from_bits-result
 float_from_bits-result c =
     let p = c.args.x in
-    no_nan_of binary32 (root binary32 p) c.root_bits-r.result (root_fits binary32 p (held c)) (c.root_bits-r.ensures ∙ back p (held c)) (λ e. c.if-r-eq2143289344.false (e ∙ bits_nan))
+    no_nan_of binary32 (root binary32 p) c.root_bits-r.result (root_fits binary32 p (held p c.well_formed.0.1)) (c.root_bits-r.ensures ∙ back p (held p c.well_formed.0.1)) (λ e. c.if-r-eq2143289344.false (e ∙ bits_nan))
 
 pub returns : goal.returns
 returns c =
     let p = c.args.x in
-    value_of binary32 (root binary32 p) c.root_bits-r.result (root_fits binary32 p (held c)) (c.root_bits-r.ensures ∙ back p (held c))
+    value_of binary32 (root binary32 p) c.root_bits-r.result (root_fits binary32 p (held p c.well_formed.0.1)) (c.root_bits-r.ensures ∙ back p (held p c.well_formed.0.1))

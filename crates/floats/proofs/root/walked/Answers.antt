@@ -8,8 +8,8 @@ use Rattle.floats.proofs.root.walked.Goals as goal
 
 -- where r * r + r is below n, r is below 2 ^ 24
 
-sq-room : (n r : ℕ) → n < 2 ^ 48 → r * r + r < n → r < 2 ^ 24
-sq-room n r h k = lt_of_not-le (λ (g : 2 ^ 24 ≤ r). over n (r * r) r h k (mul-le-mul g g))
+sq_room : (n r : ℕ) → n < 2 ^ 48 → r * r + r < n → r < 2 ^ 24
+sq_room n r h k = lt_of_not-le (λ (g : 2 ^ 24 ≤ r). over n (r * r) r h k (mul-le-mul g g))
   where
     over : (n x r : ℕ) → n < 2 ^ 48 → x + r < n → 2 ^ 48 ≤ x → ⊥
     over n x r a b c = omega arith
@@ -22,9 +22,6 @@ some n zero h k = absurd (none n h k)
     none : (n : ℕ) → 0 < n → n + 0 ≤ 0 → ⊥
     none n a b = omega arith
 some n (suc r) h k = zero-lt-suc r
-
-room : (c : tie.In-loop2 invariant-loop decreases-loop invariant-loop2 decreases-loop2) → c.before.loop2.r < 2 ^ 24
-room c = sq-room c.before.before.before.before.args.n c.before.loop2.r c.before.before.before.before.requires.1 c.loop2-test.true
 
 pub loop-r-init : goal.loop-r-init
 loop-r-init c = omega arith
@@ -39,7 +36,7 @@ pub overflow_sub-r : goal.overflow_sub-r
 overflow_sub-r c = some c.args.n c.loop-r.r c.requires.0 c.loop-r-test.true
 
 pub loop-r-smaller : goal.loop-r-smaller
-loop-r-smaller c = omega (arith, sub-r c)
+loop-r-smaller c = omega (arith, some c.args.n c.loop-r.r c.requires.0 c.loop-r-test.true)
 
 pub loop-r-preserved : goal.loop-r-preserved
 loop-r-preserved c = omega arith
@@ -57,10 +54,10 @@ pub overflow_add-r-in-loop-r-2 : goal.overflow_add-r-in-loop-r-2
 overflow_add-r-in-loop-r-2 c = omega arith
 
 pub loop-r-2-smaller : goal.loop-r-2-smaller
-loop-r-2-smaller c = omega (arith, room c)
+loop-r-2-smaller c = omega (arith, sq_room c.args.n c.loop-r-2.r c.requires.1 c.loop-r-2-test.true)
 
 pub loop-r-2-preserved : goal.loop-r-2-preserved
-loop-r-2-preserved c = omega (arith, room c, sq_next c.loop-r-2.r)
+loop-r-2-preserved c = omega (arith, sq_room c.args.n c.loop-r-2.r c.requires.1 c.loop-r-2-test.true, sq_next c.loop-r-2.r)
 
 pub returns : goal.returns
 returns c = omega arith

@@ -8,7 +8,7 @@ pub gather-modelled-requires : goal.gather-modelled-requires
 gather-modelled-requires c = empty_index _ (length-replicate {A = ℕ} 16384 0)
 
 pub gather-resolved-requires : goal.gather-resolved-requires
-gather-resolved-requires c = c.gather-modelled.ensures.1.0
+gather-resolved-requires c = c.gather-modelled.ensures.index.0
 
 pub returns : goal.returns
-returns c = record { modelled_value = λ h. both_counted _ _ _ _ _ _ _ _ _ _ (holding_none _ (length-replicate {A = ℕ} 16384 0)) c.gather-modelled.ensures.0 c.gather-resolved.ensures.0 c.gather-resolved.ensures.1.1 h; modelled_le_resolved = c.gather-resolved.ensures.1.1 }
+returns c = record { modelled_value = λ h. both_counted _ _ _ _ _ _ _ _ _ _ (holding_none _ (length-replicate {A = ℕ} 16384 0)) c.gather-modelled.ensures.gains c.gather-resolved.ensures.gains c.gather-resolved.ensures.index.1 h; modelled_le_resolved = c.gather-resolved.ensures.index.1 }

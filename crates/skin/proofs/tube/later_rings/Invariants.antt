@@ -11,7 +11,7 @@ use Rattle.rings.proofs.Laws.{wrote_none, wrote_more, room}
 use Rattle.skin.proofs.tube.later_rings.Given as goal
 
 abbrev pub invariant-loop-s : goal.invariant-loop-s
-invariant-loop-s l = (l.s ≤ l.total) × (l.at ≡ l.v + l.s * 8) × Wrote l.initial.bounds l.initial.positions l.initial.normals l.initial.tags l.v (upto (λ (l.s : ℕ). ring_positions l.kind l.points l.guides l.n (l.s + 1)) l.s) (upto (λ (l.s : ℕ). ring_normals l.kind l.points l.guides l.n (l.s + 1)) l.s) (upto (λ (l.s : ℕ). ring_tags l.first l.n (l.s + 1)) l.s) l.bounds l.positions l.normals l.tags
+invariant-loop-s l = (l.s ≤ l.total) × (l.at ≡ l.v + l.s * 8) × Wrote l.initial.bounds l.initial.positions l.initial.normals l.initial.tags l.v (upto (λ (s : ℕ). ring_positions l.kind l.points l.guides l.n (s + 1)) l.s) (upto (λ (s : ℕ). ring_normals l.kind l.points l.guides l.n (s + 1)) l.s) (upto (λ (s : ℕ). ring_tags l.first l.n (s + 1)) l.s) l.bounds l.positions l.normals l.tags
 
 abbrev pub decreases-loop-s : goal.decreases-loop-s
 decreases-loop-s l = l.total - l.s

@@ -23,6 +23,12 @@ end_cap-requires c =
     let pre = c.requires in
     (pre.0, room _ _ _ _ _ c.later_rings-rings.ensures (same_room _ _ _ _ c.start_cap-start.ensures pre.1) _ (omega (arith, vertex_count_lem c.args.n pre.0.two, pre.0.two)))
 
+pub returns : goal.returns
+unfolding skin_positions skin_normals tags_of
+returns c =
+    let args = c.args in
+    whole args.kind args.points.now args.guides.now args.n args.first _ _ _ _ _ _ args.v _ _ c.requires.0.two refl refl c.start_cap-start.ensures c.later_rings-rings.ensures c.end_cap.ensures
+
 pub shape_of-positions : goal.shape_of-positions
 shape_of-positions c = kept _ _ _ (returns c).pos
 
@@ -31,9 +37,3 @@ shape_of-normals c = kept _ _ _ (returns c).norm
 
 pub shape_of-tags : goal.shape_of-tags
 shape_of-tags c = kept _ _ _ (returns c).tag
-
-pub returns : goal.returns
-unfolding skin_positions skin_normals tags_of
-returns c =
-    let args = c.args in
-    whole args.kind args.points.now args.guides.now args.n args.first _ _ _ _ _ _ args.v _ _ c.requires.0.two refl refl c.start_cap-start.ensures c.later_rings-rings.ensures c.end_cap.ensures
