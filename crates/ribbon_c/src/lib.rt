@@ -3,7 +3,7 @@
 
 ghost use Rattle.std.specs.Prelude.{◌≡◌, ◌+◌, ◌≤◌, length};
 ghost use Rattle.job.specs.Refusals.{refusal_numbers};
-ghost use Rattle.buffers.specs.Outs.{shown, held, holds};
+ghost use Rattle.buffers.specs.Outs.{outs, held, holds};
 ghost use Rattle.room.specs.Room.{buffers, scratch};
 ghost use Rattle.promises.specs.Calls.{built_numbers, planned_numbers};
 ghost use Rattle.pdb_reader.specs.Call.{read_numbers};
@@ -171,8 +171,8 @@ pub extern "C" fn ribbon_write_stl(
     stl: &mut [u8],
     answer: &mut [u32; 4],
 )
-    ensures { WritesStlWords (shown positions normals tags triangles tubes boxes) (record { tubes = k; vertices = v; triangles = t })
-        stl.old answer.new stl.new }
+    ensures { WritesStlWords (outs positions.now normals.now tags.now triangles.now tubes.now boxes.now)
+        (record { tubes = k; vertices = v; triangles = t }) stl.old answer.new stl.new }
 {
     let c = Counts {
         tubes: k,
