@@ -1,4 +1,4 @@
-//! Links the proved library that `rt staticlib ribbon_c` leaves.
+//! Links the proved library that `tools/staticlib ribbon_c` leaves.
 
 fn main() {
     let root = std::env::var("CARGO_MANIFEST_DIR").unwrap();

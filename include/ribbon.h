@@ -1,7 +1,7 @@
 /* The proved ribbon builder for C and C++: from a PDB file to a job, from a job to a mesh, from a mesh to a binary STL file, in buffers that the caller lends.
  * A host needs no other file.
  *
- * Link target/staticlib/libribbon_c.a, which `rt staticlib ribbon_c` writes. It is for x86-64 Linux alone, and of the C library it takes memcpy and memset.
+ * Link target/staticlib/libribbon_c.a, which `tools/staticlib ribbon_c` writes. It is for x86-64 Linux alone, and of the C library it takes memcpy and memset.
  *
  * WHAT IS DEMANDED. A buffer is a pointer and its length in places (bytes, words or floats). The pointer is good for that length, and no two buffers of one
  * call overlap, the answer among them; an empty buffer may be null. Nothing else is demanded: every file, every job and every length has an answer. A refused

@@ -1,5 +1,5 @@
-# Sourced by the examples and by tests/c/run: compiles C for x86-64 and runs it, on Arm with Debian's cross compiler and the kit's emulator.
-# A program is linked whole, so that it needs no loader and runs the same on every machine.
+# Sourced by the examples and by tests/c/run: compiles C for x86-64 and runs it. A program is linked whole, so that it needs no loader and runs the same on every
+# machine.
 . "$root/tools/run.sh"
 . "$root/tools/packages.sh"
 cd "$root"
@@ -7,15 +7,11 @@ built=target/examples # where link_c puts a program, and run_c finds it
 
 cc=x86_64-linux-gnu-gcc
 if ! command -v "$cc" >/dev/null; then
-    if [ "$(uname -m)" = x86_64 ]; then
-        cc=gcc
-        need_package gcc gcc libc6-dev
-    else
-        need_package "$cc" gcc-x86-64-linux-gnu libc6-dev-amd64-cross
-    fi
+    cc=gcc
+    need_package gcc gcc libc6-dev
 fi
 
-# No program needs libm, whose static archive for the cross compiler does not link: without errno a square root is the machine's instruction.
+# No program needs libm: without errno a square root is the machine's instruction.
 link_c() { # PROGRAM ARCHIVE [WORD ...]: examples/PROGRAM.c with the archive, to $built/PROGRAM
     mkdir -p "$built"
     "$cc" -std=c11 -Wall -Wextra -Werror -O2 -fno-fast-math -fno-math-errno -static -I include "${@:3}" "examples/$1.c" "$2" -o "$built/$1"
@@ -26,9 +22,6 @@ compile() { # PROGRAM LIBRARY [WORD ...]: examples/PROGRAM.c with a proved libra
     link_c "$1" "target/staticlib/lib$2.a" "${@:3}"
 }
 
-emulated=
-[ -x "$tools/bin/qemu-x86_64" ] && emulated=$tools/bin/qemu-x86_64
-
 run_c() { # PROGRAM [ARGUMENT ...]
-    if [ -n "$emulated" ]; then "$emulated" "$built/$1" "${@:2}"; else "$built/$1" "${@:2}"; fi
+    "$built/$1" "${@:2}"
 }

@@ -1,5 +1,7 @@
 // Numbers by first appearance: what they are is mathematics, in specs/Order and proofs/. The code is an index over up to 16,384 keys
 // that finds a key's number.
+#![tactic(auto)]
+
 ghost use Rattle.std.specs.Prelude.{◌≡◌, [], ◌∷◌, ◌+◌, ◌<◌, ◌≤◌, set};
 ghost use Rattle.lists.specs.Search.{last};
 ghost use Rattle.appearance.specs.Index.{slot, is_key, Index, Gains};

@@ -1,5 +1,7 @@
 // A binary STL file in blocks, for a program that writes it to a descriptor: the head, and then a thousand facets at a time. What the blocks are stands in
 // specs/Blocks, that they make the file in proofs/Demands.
+#![tactic(auto)]
+
 ghost use Rattle.std.specs.Prelude.{◌≡◌, ◌+◌, ◌*◌, ◌/◌, ◌≤◌, ◌<◌, length};
 ghost use Rattle.lists.specs.Put.{put};
 ghost use Rattle.facets.specs.Facets.{Drawn};

@@ -1,11 +1,12 @@
 // Where a chain's ribbon comes apart, and which residues no tube holds: why a print comes in parts. Two residues that tubes hold and that follow each other in
 // their chain are a break where no tube holds both. It is told on standard error, and no byte of the model depends on it.
+#![tactic(auto)]
+
 ghost use Rattle.std.specs.Prelude.{◌≡◌, ◌+◌, ◌*◌, ◌≤◌, ◌<◌, length};
 ghost use Rattle.protein.specs.Layout.{Whole};
 ghost use Rattle.appearance.specs.Index.{Index};
 
-use files::say;
-use libc::STDERR_FILENO;
+use files::{STDERR_FILENO, say};
 use pdb_file::Next;
 use pdb_records::Record;
 use protein::Head;

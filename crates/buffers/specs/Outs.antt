@@ -1,6 +1,6 @@
 -- The six lent output buffers of a mesh, how contracts name them, and when they have room.
 use Rattle.std.specs.Prelude.{ℕ, ◌*◌, ◌≤◌, List, Bool, ◌||◌, length, ltb, Float}
-use Rattle.std.specs.Borrow.{Bor, MutBor}
+use Rattle.std.specs.Borrow.{MutBor}
 use denote.Triple.Both.{Both}
 use Rattle.buffers.specs.declared.Counts.{Counts}
 
@@ -21,10 +21,6 @@ outs p n g t r b = record { positions = p; normals = n; tags = g; triangles = t;
 -- what six lent slices hold where a function begins: for a `requires`
 abbrev pub lends : MutBor (List Float) → MutBor (List Float) → MutBor (List ℕ) → MutBor (List ℕ) → MutBor (List ℕ) → MutBor (List Float) → Outs
 lends p n g t r b = outs p.now n.now g.now t.now r.now b.now
-
--- what six slices hold that are lent to be read
-abbrev pub shown : Bor (List Float) → Bor (List Float) → Bor (List ℕ) → Bor (List ℕ) → Bor (List ℕ) → Bor (List Float) → Outs
-shown p n g t r b = outs p.now n.now g.now t.now r.now b.now
 
 -- a lent slice as an `ensures` sees it: `entry` where the function begins, `exit` where it returns
 abbrev pub Slice : Type 0 → Type 0

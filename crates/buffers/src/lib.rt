@@ -1,4 +1,6 @@
 // The six output buffers of a mesh, and whether they have room for it. What they are stands in specs/Outs.
+#![tactic(auto)]
+
 ghost use Rattle.std.specs.Prelude.{◌≡◌};
 ghost use Rattle.buffers.specs.Outs.{sizes, tight};
 

@@ -1,4 +1,6 @@
 // The normal of a tube's end cap.
+#![tactic(auto)]
+
 ghost use Rattle.std.specs.Prelude.{◌≡◌, ◌*◌, ◌≤◌, length};
 ghost use Rattle.caps.specs.Caps.{end_normal_by};
 

@@ -1,5 +1,7 @@
 // Whether mesh buffers that a caller hands over are a mesh's (02 §4; §12 asks the same). What that means stands in specs/Consistent; nothing is demanded of
 // the caller, so no count of theirs is multiplied before it is known to be small.
+#![tactic(auto)]
+
 ghost use Rattle.std.specs.Prelude.{◌≡◌, ◌+◌, ◌-◌, ◌*◌, ◌%◌, ◌≤◌, ◌<◌, cond, ◌&&◌, leb, ltb, length};
 ghost use Rattle.buffers.specs.Outs.{sizes};
 ghost use Rattle.consistency.specs.Consistent.{record_fits, corners_in, tubes_fit, consistent_in};

@@ -1,4 +1,6 @@
 // Thousandths to the bits of an f64.
+#![tactic(auto)]
+
 ghost use Rattle.std.specs.Prelude.{◌≡◌};
 ghost use Rattle.coordinates.specs.Coordinate.{bits};
 

@@ -1,4 +1,6 @@
 // The course of a tube: guides and spline points of its residues, and the frame at each sample.
+#![tactic(auto)]
+
 pub mod residues;
 pub mod samples;
 

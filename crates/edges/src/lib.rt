@@ -1,4 +1,6 @@
 // What a closed triangle list is, and that every tube is one, is mathematics: specs/ and proofs/. The crate's functions are a tube's counts.
+#![tactic(auto)]
+
 ghost use Rattle.std.specs.Prelude.{◌≡◌, ◌≤◌};
 ghost use Rattle.edges.specs.Tube.{vertex_count, triangle_count};
 

@@ -1,4 +1,6 @@
 // The facets of a binary STL file (02 §4), written from a mesh and listed from a file. What the bytes are stands in specs/Facets.
+#![tactic(auto)]
+
 ghost use Rattle.std.specs.Prelude.{◌≡◌, [], ◌∷◌, ◌+◌, ◌*◌, ◌/◌, ◌≤◌, ◌<◌, length, replicate};
 ghost use Rattle.lists.specs.Put.{put};
 ghost use Rattle.facets.specs.Facets.{facet_normal, facet_bytes, corner_at, facet_at, facets_of, stl_head, Drawn, facet_place, one_normal, one_corners, listed_normals, listed_corners};

@@ -1,40 +1,82 @@
 // What every program here reads and writes with: a read that fails is told apart from the end of the input, and each program says at its end whether all went
 // well. What a cut input gives is no whole file, and a part of a protein must never look like the whole of it.
-use libc::{SEEK_CUR, SEEK_END, STDERR_FILENO, STDIN_FILENO};
+#![tactic(auto)]
 
-// How a buffer was filled: whole; the input had ended before it; it ended within it; or a read failed.
+ghost use Rattle.std.specs.Prelude.{◌≤◌, length, IfOk};
+
+use std::env::{Env, FillError};
+use std::fmt::InlineText;
+use std::fs;
+use std::fs::File;
+use std::io::{Error, Print, Read, Seek, SeekFrom, Stdout};
+use std::os::fd::AsRawFd;
+
+pub const STDOUT_FILENO: i32 = 1;
+
+pub const STDERR_FILENO: i32 = 2;
+
+// The system's numbers for a name that is too long, and for one that is no text.
+const ENAMETOOLONG: i32 = 36;
+
+const EILSEQ: i32 = 84;
+
+// What is read: standard input, by the runtime, or a file that was opened by its name.
+#[derive(Drop)]
+pub enum Source {
+    Standard(HostRuntime),
+    Named(File),
+}
+
+// How a buffer was filled: whole; the input had ended before it; it ended within it; or a read failed, with the system's number for why.
 #[derive(Clone, Copy)]
 pub enum Filled {
     Whole,
     Nothing,
     Cut,
-    Failed,
+    Failed(i32),
 }
 
-// Reads until the input ends or buf is full, and answers how many bytes it put there; -1 where a read failed, since what came before it is no whole file.
-pub fn read_all(from: i32, buf: &mut [u8]) -> isize {
+// The system's number for why something failed, 0 where it has none.
+fn number_of(e: Error) -> i32 {
+    e.raw_os_error().unwrap_or(0)
+}
+
+// One read, of at most as many bytes as buf has. The input has ended where it gives none.
+fn read_some(from: &Source, buf: &mut [u8]) -> Result<usize, i32>
+    ensures { IfOk result (λ n. n ≤ length buf.new) }
+{
+    let got = match from {
+        Source::Standard(rt) => rt.stdin().read(buf),
+        Source::Named(file) => {
+            let mut there = file;
+            there.read(buf)
+        }
+    };
+    got.map_err(number_of)
+}
+
+// Reads until the input ends or buf is full, and answers how many bytes it put there; where a read failed the system's number for why, since what came before it
+// is no whole file.
+pub fn read_all(from: &Source, buf: &mut [u8]) -> Result<usize, i32>
+    ensures { IfOk result (λ n. n ≤ length buf.new) }
+{
     let mut done = 0;
     while done < buf.len() {
-        let got = libc::read(from, &mut buf[done..]);
-        if got < 0 {
-            return -1;
-        }
-        let n = io::count(got, &buf[done..]);
+        let n = read_some(from, &mut buf[done..])?;
         if n == 0 {
-            return done as isize;
+            return Ok(done);
         }
         done += n;
     }
-    done as isize
+    Ok(done)
 }
 
 // Reads exactly as many bytes as buf has, or tells why not.
-pub fn fill(from: i32, buf: &mut [u8]) -> Filled {
-    let got = read_all(from, buf);
-    if got < 0 {
-        return Filled::Failed;
-    }
-    let n = io::count(got, buf);
+pub fn fill(from: &Source, buf: &mut [u8]) -> Filled {
+    let n = match read_all(from, buf) {
+        Ok(n) => n,
+        Err(why) => return Filled::Failed(why),
+    };
     if n == buf.len() {
         return Filled::Whole;
     }
@@ -44,41 +86,126 @@ pub fn fill(from: i32, buf: &mut [u8]) -> Filled {
     Filled::Cut
 }
 
-// The file that the first argument names, standard input where there is none, or -1, which was then said.
-pub fn open_first() -> i32 {
-    open_argument(1)
+// Writes all of the bytes to standard output, or answers the system's number for why not.
+pub fn write(to: Stdout, bytes: &[u8]) -> Result<(), i32> {
+    to.write_all(bytes).map_err(number_of)
+}
+
+// Puts argument i at the front of buf and answers its length; 0 where there is none, or it is longer than buf.
+pub fn argument(rt: &HostRuntime, i: usize, buf: &mut [u8]) -> usize
+    ensures { result ≤ length buf.new }
+{
+    rt.arg(i, buf).unwrap_or(0)
+}
+
+// The file of a name, or none, which was then said. A name that is no text names no file here.
+pub fn open(rt: &HostRuntime, name: &[u8]) -> Option<Source> {
+    let opened = match str::from_utf8(name) {
+        Ok(path) => File::open(rt, path).map_err(number_of),
+        Err(_) => Err(EILSEQ),
+    };
+    match opened {
+        Ok(file) => Some(Source::Named(file)),
+        Err(why) => {
+            fail(name, why);
+            None
+        }
+    }
+}
+
+// The file that the first argument names, standard input where there is none, or nothing, which was then said.
+pub fn open_first(rt: &HostRuntime) -> Option<Source> {
+    open_argument(rt, 1)
 }
 
 // The same of argument i.
-pub fn open_argument(i: usize) -> i32 {
-    if os::arg_count() <= i {
-        return STDIN_FILENO;
-    }
+pub fn open_argument(rt: &HostRuntime, i: usize) -> Option<Source> {
     let mut path = io::buffer();
-    let n = os::arg(i, &mut path);
-    if os::errno() != 0 {
-        os::fail(b"the file's name");
-        return -1;
+    match rt.arg(i, &mut path) {
+        Ok(n) => open(rt, &path[..n]),
+        Err(FillError::NotPresent) => Some(Source::Standard(*rt)),
+        Err(FillError::TooLong) => {
+            fail(b"the file's name", ENAMETOOLONG);
+            None
+        }
     }
-    let file = os::open_read(&path[..n]);
-    if file < 0 {
-        os::fail(&path[..n]);
-    }
-    file
 }
 
-// Whether a file that was read to its end still ends where the reading stopped: one that was cut, or written on, meanwhile does not. What has no places, such as a
-// pipe, ends where its writer ended.
-pub fn is_settled(from: i32) -> bool {
-    let here = libc::lseek(from, 0, SEEK_CUR);
-    if here < 0 {
-        return true;
+impl Source {
+    pub fn is_standard(&self) -> bool {
+        match self {
+            Source::Standard(_) => true,
+            Source::Named(_) => false,
+        }
     }
-    libc::lseek(from, 0, SEEK_END) == here
+
+    // The descriptor that it is read by, which stays open while it is there.
+    pub fn descriptor(&self) -> i32 {
+        match self {
+            Source::Standard(rt) => rt.stdin().as_raw_fd(),
+            Source::Named(file) => file.as_raw_fd(),
+        }
+    }
+}
+
+// Where standard input stands in its file, as the system lists it.
+fn place_of_input(rt: &HostRuntime) -> Option<u64> {
+    let mut file = File::open(rt, "/proc/self/fdinfo/0").ok()?;
+    let mut text = [0u8; 64];
+    let n = file.read(&mut text).ok()?;
+    let lines = str::from_utf8(&text[..n]).ok()?;
+    let (place, _) = lines.strip_prefix("pos:\t")?.split_once('\n')?;
+    place.parse::<u64>().ok()
+}
+
+// The same as below of standard input. It has no seek here, so that its file is looked at by name; where the system does not list the place it is n, as it is of
+// an input that was read from its front.
+fn is_input_settled(rt: &HostRuntime, n: usize) -> bool {
+    match fs::metadata(rt, "/proc/self/fd/0") {
+        Ok(seen) if seen.is_file() => seen.len() == place_of_input(rt).unwrap_or(n as u64),
+        _ => true,
+    }
+}
+
+fn is_file_settled(file: &File) -> bool {
+    let mut there = file;
+    let Ok(here) = there.stream_position() else {
+        return true;
+    };
+    match there.seek(SeekFrom::End(0)) {
+        Ok(end) => end == here,
+        Err(_) => false,
+    }
+}
+
+// Whether a file that was read to its end, n bytes in all, still ends where the reading stopped: one that was cut, or written on, meanwhile does not. What has no
+// places, such as a pipe, ends where its writer ended.
+pub fn is_settled(from: &Source, n: usize) -> bool {
+    match from {
+        Source::Standard(rt) => is_input_settled(rt, n),
+        Source::Named(file) => is_file_settled(file),
+    }
 }
 
 pub fn say(words: &[u8]) {
     io::write_all(STDERR_FILENO, words);
+}
+
+// The system's words for an error stand in front of its number.
+fn words_in(text: &str) -> &str {
+    match text.split_once(" (os error ") {
+        Some((words, _)) => words,
+        None => text,
+    }
+}
+
+// Says what failed, and the system's words for why.
+pub fn fail(what: &[u8], why: i32) {
+    let text = InlineText::<128>::of(Error::from_raw_os_error(why));
+    say(what);
+    say(b": ");
+    say(words_in(text.as_str()).as_bytes());
+    say(b"\n");
 }
 
 // A program has no exit status of its own: its last act is one byte to descriptor 3, by which whoever started it knows that it came to its end and how it went.

@@ -1,4 +1,6 @@
 // Float leaves: bits, narrowing and the square root, over whole numbers, and the absolute value and the greater of two.
+#![tactic(auto)]
+
 pub mod bits;
 pub mod narrow;
 pub mod root;

@@ -1,4 +1,6 @@
 // Narrowing and the square root for C, over bit patterns, so that they can be run against the machine's own.
+#![tactic(auto)]
+
 ghost use Rattle.std.specs.Prelude.{◌≡◌};
 ghost use Rattle.std.specs.Float.{binary32, binary64};
 ghost use Rattle.std.specs.Float.Ieee.{to_bits, of_bits};

@@ -1,4 +1,6 @@
 // Checks 1 to 8 of a job's bytes, and the refusals of every call (01, 'Refusal numbers').
+#![tactic(auto)]
+
 ghost use Rattle.std.specs.Prelude.{◌≡◌, not, ◌+◌, ◌≤◌, ◌<◌, length};
 ghost use Rattle.lists.specs.Search.{first};
 ghost use Rattle.numbers.specs.Bytes.{u64_at};

@@ -1,4 +1,6 @@
 // Writes a job's bytes, record by record.
+#![tactic(auto)]
+
 ghost use Rattle.std.specs.Prelude.{◌≡◌, ◌+◌, ◌*◌, ◌<◌, ◌≤◌, length, replicate};
 ghost use Rattle.lists.specs.Put.{put};
 ghost use Rattle.job_writer.specs.Job.{segment_bytes, point, atom_bytes, head_bytes};

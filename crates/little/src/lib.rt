@@ -1,4 +1,6 @@
 // Words, floats and vectors in bytes, the lowest byte first: read and written.
+#![tactic(auto)]
+
 ghost use Rattle.std.specs.Prelude.{◌≡◌, ◌+◌, ◌≤◌, ◌<◌, length};
 ghost use Rattle.lists.specs.Put.{put};
 ghost use Rattle.little.specs.Little.{le32, le32_at, le_float, le_float_at, le_vec, le_vec_at};

@@ -1,4 +1,6 @@
 // One tube into the lent buffers: positions, normals, tags, triangles, its five words and its box.
+#![tactic(auto)]
+
 ghost use Rattle.std.specs.Prelude.{◌≡◌, ◌++◌, [], ◌∷◌, ◌+◌, ◌*◌, ◌-◌, ◌≤◌, ◌<◌, length};
 ghost use Rattle.lists.specs.Put.{put};
 ghost use Rattle.protein.specs.Layout.{Whole};

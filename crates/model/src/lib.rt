@@ -1,6 +1,8 @@
-// From the bytes of a PDB file to a binary STL file on a descriptor, in lent room: read_pdb, build, the scaling, and the file block by block. It adds no rule to
+// From the bytes of a PDB file to a binary STL file on standard output, in lent room: read_pdb, build, the scaling, and the file block by block. It adds no rule to
 // those. Nothing is written before the last refusal is past, so a refused file leaves no part of a model. What was made, or why nothing was, is told on standard
 // error.
+#![tactic(auto)]
+
 ghost use Rattle.std.specs.Prelude.{◌≡◌, ◌+◌, ◌*◌, ◌/◌, ◌≤◌, ◌<◌, length};
 ghost use Rattle.protein.specs.Layout.{Whole};
 ghost use Rattle.facets.specs.Facets.{Drawn};
@@ -11,6 +13,7 @@ use job::{Checked, Refusal};
 use pdb_reader::Read;
 use promises::Built;
 use protein::Head;
+use std::io::Stdout;
 use words::Else;
 
 // How it went. Short: the lent room is too short, which was not said, since the caller has more.
@@ -26,7 +29,7 @@ pub enum Made {
 // room.
 #[derive(Clone, Copy)]
 pub struct Wish {
-    pub to: i32,
+    pub to: Stdout,
     pub thousandths: u32,
     pub factor: f32,
     pub more: bool,
@@ -52,29 +55,30 @@ fn refuse(file: &[u8], r: Refusal, more: bool) -> Made {
 }
 
 // The facets of a mesh, block after block.
-fn send_facets(to: i32, positions: &[f32], triangles: &[u32], block: &mut [u8]) -> bool
+fn send_facets(
+    to: Stdout,
+    positions: &[f32],
+    triangles: &[u32],
+    block: &mut [u8],
+) -> Result<(), i32>
     requires { Drawn positions.now triangles.now × (50000 ≤ length block.old) }
 {
     let t = triangles.len() / 3;
     let mut i = 0;
     while 1000 * i < t {
         let n = blocks::put_block(block, positions, triangles, i);
-        if !io::write_all(to, &block[..n]) {
-            return false;
-        }
+        files::write(to, &block[..n])?;
         i += 1;
     }
-    true
+    Ok(())
 }
 
-// Whether the whole file was written.
-fn send_file(to: i32, positions: &[f32], triangles: &[u32], block: &mut [u8]) -> bool
+// Writes the whole file, or answers the system's number for why not.
+fn send_file(to: Stdout, positions: &[f32], triangles: &[u32], block: &mut [u8]) -> Result<(), i32>
     requires { Drawn positions.now triangles.now × (length triangles.now ≤ 6291456) × (50000 ≤ length block.old) }
 {
     facets::put_head(block, (triangles.len() / 3) as u32);
-    if !io::write_all(to, &block[..84]) {
-        return false;
-    }
+    files::write(to, &block[..84])?;
     send_facets(to, positions, triangles, block)
 }
 
@@ -128,8 +132,8 @@ fn send_model(positions: &mut [f32], triangles: &[u32], block: &mut [u8], w: Wis
     requires { Drawn positions.old triangles.now × (length triangles.now ≤ 6291456) × (50000 ≤ length block.old) }
 {
     scaling::scale_positions(positions, w.factor);
-    if !send_file(w.to, positions, triangles, block) {
-        os::fail(b"ribbon: the model cannot be written");
+    if let Err(why) = send_file(w.to, positions, triangles, block) {
+        files::fail(b"ribbon: the model cannot be written", why);
         return Made::Failed;
     }
     report::tell_written(84 + 50 * (triangles.len() / 3));

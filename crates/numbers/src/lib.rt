@@ -1,4 +1,6 @@
 // Numbers in bytes, big-endian: read and written.
+#![tactic(auto)]
+
 ghost use Rattle.std.specs.Prelude.{◌≡◌, [], ◌∷◌, ◌+◌, ◌≤◌, ◌<◌, length};
 ghost use Rattle.lists.specs.Put.{put};
 ghost use Rattle.numbers.specs.Bytes.{u8_at, u16_at, u32_at, u64_at, u16, u32, u64};

@@ -1,5 +1,7 @@
 // The calls of one of two parties on one structure (02 §5). Nothing is demanded of whoever calls them; what they promise, `BuildsShare` and `PlansRecords`,
 // stands in party_promises/specs/Calls. Atoms, residues and chains are one shared job with no segments; each party has its own segment records.
+#![tactic(auto)]
+
 ghost use Rattle.std.specs.Prelude.{◌≡◌, false, ◌≤◌};
 ghost use Rattle.protein.specs.Layout.{Whole};
 ghost use Rattle.protein.specs.Job.{job_of, segments_of};

@@ -52,8 +52,8 @@ one {b' = b'} {b'' = b''} B C = (answer_is B ∙ sym (answer_is C), same (B.outp
     same : b'.outs ≡ b''.outs → b'.scratch ≡ b''.scratch → b' ≡ b''
     same x y = ap (λ (z : Outs). record { outs = z; scratch = b'.scratch }) x ∙ ap (λ (z : Scratch). record { outs = b''.outs; scratch = z }) y
 
-pub one-plan : {s q : List ℕ} {k : ℕ} {c c' c'' : Scratch} {r t : Planned} → PlansRecords s q k c r c' → PlansRecords s q k c t c'' → (r ≡ t) × (c' ≡ c'')
-one-plan {r = r} {t = t} P Q = (planned_told r t (P.answer ∙ sym Q.answer), P.scratch ∙ sym Q.scratch)
+pub one_plan : {s q : List ℕ} {k : ℕ} {c c' c'' : Scratch} {r t : Planned} → PlansRecords s q k c r c' → PlansRecords s q k c t c'' → (r ≡ t) × (c' ≡ c'')
+one_plan {r = r} {t = t} P Q = (planned_told r t (P.answer ∙ sym Q.answer), P.scratch ∙ sym Q.scratch)
 
 -- ---- which exit was taken, with what was found on the way
 
@@ -98,8 +98,8 @@ exit {s} {q} {m} {k} {b} {r = r} B = go (check_shared s q) refl
 
 -- ---- a refusal
 
-not-mesh : {A : Type 0} {x : Refusal} {c : Counts} → NoMesh x ≡ Mesh c → A
-not-mesh e = mesh_or_not (sym e)
+not_mesh : {A : Type 0} {x : Refusal} {c : Counts} → NoMesh x ≡ Mesh c → A
+not_mesh e = mesh_or_not (sym e)
 
 module _ {s q : List ℕ} {m k : Shares} {b b' : Buffers} {x : Refusal} (B : BuildsShare s q m k b (NoMesh x) b') where
   is : (y : Refusal) → NoMesh x ≡ NoMesh y → number_of x ≡ number_of y
@@ -113,7 +113,7 @@ module _ {s q : List ℕ} {m k : Shares} {b b' : Buffers} {x : Refusal} (B : Bui
       go (bad p t z) = inr (is BadShares z)
       go (nine p g f z) = inl (omega (arith, is NoScratch z), omega (arith, is NoScratch z))
       go (later p g f y n z) = inl (omega (arith, n.0, is y z), omega (arith, n.1, is y z))
-      go (mesh p g f c z) = not-mesh z
+      go (mesh p g f c z) = not_mesh z
 
   -- the answer is no mesh, so nothing was written
   pub untouched : b'.outs ≡ b.outs
@@ -125,8 +125,8 @@ module _ {s q : List ℕ} {m k : Shares} {b b' : Buffers} {x : Refusal} (B : Bui
           let a : share_checks h (tubes_with s h q) m k (lent b) ≡ NoMesh x = sym (answer_is B ∙ answer_passed s q m k h e (lent b)) in
           B.outputs ∙ outs_passed s q m k h e (lent b) b.outs ∙ ap (λ (y : Built). shared_by y (protein_of s h) (tubes_with s h q) m b.outs) a
 
-  by-scratch : PassesShared s q → share_scratch s q m k (sizes_of b.outs) b.scratch ≡ cond (bad_shares (sizes_of b.outs) m k) b.scratch (scratch_past (head_of s) b.scratch)
-  by-scratch p = scratch_passed s q m k (head_of s) p (sizes_of b.outs) b.scratch
+  by_scratch : PassesShared s q → share_scratch s q m k (sizes_of b.outs) b.scratch ≡ cond (bad_shares (sizes_of b.outs) m k) b.scratch (scratch_past (head_of s) b.scratch)
+  by_scratch p = scratch_passed s q m k (head_of s) p (sizes_of b.outs) b.scratch
 
   pub kept : (number_of x ≤ 9) ⊎ (number_of x ≡ 20) → b'.scratch ≡ b.scratch
   kept h = B.scratch ∙ go (exit B)
@@ -136,12 +136,12 @@ module _ {s q : List ℕ} {m k : Shares} {b b' : Buffers} {x : Refusal} (B : Bui
 
       go : Exit s q m k b (NoMesh x) → share_scratch s q m k (sizes_of b.outs) b.scratch ≡ b.scratch
       go (early y e z) = scratch_left s q m k y e (sizes_of b.outs) b.scratch
-      go (bad p t z) = by-scratch p ∙ ap (λ (y : Bool). cond y b.scratch (scratch_past (head_of s) b.scratch)) t
+      go (bad p t z) = by_scratch p ∙ ap (λ (y : Bool). cond y b.scratch (scratch_past (head_of s) b.scratch)) t
       go (nine p g f z) =
-          by-scratch p ∙ ap (λ (y : Bool). cond y b.scratch (scratch_past (head_of s) b.scratch)) g
+          by_scratch p ∙ ap (λ (y : Bool). cond y b.scratch (scratch_past (head_of s) b.scratch)) g
           ∙ ap (λ (y : Bool). cond y b.scratch (cleared (head_of s) b.scratch)) f
       go (later p g f y n z) = late y n z
-      go (mesh p g f c z) = not-mesh z
+      go (mesh p g f c z) = not_mesh z
 
   pub emptied : 9 < number_of x → number_of x < 20 → b'.scratch ≡ cleared (head_of s) b.scratch
   emptied h l = B.scratch ∙ go (exit B)
@@ -151,9 +151,9 @@ module _ {s q : List ℕ} {m k : Shares} {b b' : Buffers} {x : Refusal} (B : Bui
       go (bad p t z) = absurd (omega (arith, is BadShares z))
       go (nine p g f z) = absurd (omega (arith, is NoScratch z))
       go (later p g f y n z) =
-          by-scratch p ∙ ap (λ (y : Bool). cond y b.scratch (scratch_past (head_of s) b.scratch)) g
+          by_scratch p ∙ ap (λ (y : Bool). cond y b.scratch (scratch_past (head_of s) b.scratch)) g
           ∙ ap (λ (y : Bool). cond y b.scratch (cleared (head_of s) b.scratch)) f
-      go (mesh p g f c z) = not-mesh z
+      go (mesh p g f c z) = not_mesh z
 
 -- ---- a mesh was handed out past all checks
 
@@ -168,8 +168,8 @@ module _ {s q : List ℕ} {m k : Shares} {b b' : Buffers} {c : Counts} (B : Buil
       go (later p g f y n z) = mesh_or_not z
       go (mesh p g f d z) = (p, g, f)
 
-  pub emptied-after : b'.scratch ≡ cleared (head_of s) b.scratch
-  emptied-after =
+  pub emptied_after : b'.scratch ≡ cleared (head_of s) b.scratch
+  emptied_after =
       B.scratch ∙ scratch_passed s q m k (head_of s) ready.0 (sizes_of b.outs) b.scratch
       ∙ ap (λ (y : Bool). cond y b.scratch (scratch_past (head_of s) b.scratch)) ready.1
       ∙ ap (λ (y : Bool). cond y b.scratch (cleared (head_of s) b.scratch)) ready.2
@@ -196,7 +196,7 @@ twenty_means {s} {q} {m} {k} {b} B = go (exit B)
     go (bad p t z) = (p, t)
     go (nine p g f z) = absurd (omega (arith, ap number_of (same_refusal z)))
     go (later p g f y n z) = absurd (omega (arith, n.1, ap number_of (same_refusal z)))
-    go (mesh p g f d z) = not-mesh z
+    go (mesh p g f d z) = not_mesh z
 
 pub means : (o : Outs) (m k : Shares) → GoodShares o m k → Fits m o × Fits k o × Apart m k
 means o m k g = good_fits m k o g
@@ -204,8 +204,8 @@ means o m k g = good_fits m k o g
 pub by : (o : Outs) (m k : Shares) → Fits m o → Fits k o → Apart m k → GoodShares o m k
 by o m k f g a = fits_good m k o f g a
 
-pub for-both : (o : Outs) (m k : Shares) → GoodShares o m k → GoodShares o k m
-for-both o m k g = bad_sym k m (sizes_of o) ∙ g
+pub for_both : (o : Outs) (m k : Shares) → GoodShares o m k → GoodShares o k m
+for_both o m k g = bad_sym k m (sizes_of o) ∙ g
 
 -- ---- isolation
 
@@ -238,8 +238,8 @@ module _ {s q : List ℕ} {m k : Shares} {b b' : Buffers} {c : Counts} (y : AllB
   pub closed : Sound 0 c.vertices c.triangles (take (3 * c.triangles) (share_of m b'.outs).triangles)
   closed = base.mesh_closed (mesh_as_job y B)
 
-no-shorter : (m n k l : Shares) (b d : Buffers) → NoShorterShares m n → NoLess b.scratch d.scratch → Fits m b.outs → Fits n d.outs → NoShorter (in_share m b) (in_share n d)
-no-shorter m n k l b d N w F G =
+no_shorter : (m n k l : Shares) (b d : Buffers) → NoShorterShares m n → NoLess b.scratch d.scratch → Fits m b.outs → Fits n d.outs → NoShorter (in_share m b) (in_share n d)
+no_shorter m n k l b d N w F G =
     let e = sizes_share m b.outs F in
     let f = sizes_share n d.outs G in
     record {
@@ -256,7 +256,7 @@ pub longer : {s q : List ℕ} {m k n l : Shares} {b b' d d' : Buffers} {c : Coun
     → NoLess b.scratch d.scratch → GoodShares d.outs n l → BuildsShare s q n l d r d' → (r ≡ Mesh c) × SameMesh c (share_of m b'.outs) (share_of n d'.outs)
 longer {s} {q} {m} {k} {n} {l} {b} {b'} {d} {d'} {c} {r} y B N w g D =
     let R = ready B in
-    base.same_mesh (mesh_as_job y B) (no-shorter m n k l b d N w (good_fits m k b.outs R.1).0 (good_fits n l d.outs g).0)
+    base.same_mesh (mesh_as_job y B) (no_shorter m n k l b d N w (good_fits m k b.outs R.1).0 (good_fits n l d.outs g).0)
     (builds_as_job s q n l d d' r y (shared_by_lem s q (head_of s) R.0) g D)
 
 module _ {s q : List ℕ} {m k : Shares} {b b' : Buffers} {r : Built} (y : AllBytes s) (S : Shared s q) (g : GoodShares b.outs m k) (R : Buildable (with_records s q) b.scratch)
@@ -273,9 +273,9 @@ module _ {s q : List ℕ} {m k : Shares} {b b' : Buffers} {r : Built} (y : AllBy
 
 -- ---- the plan
 
-pub plan-numbers : {s q : List ℕ} {k : ℕ} {c c' : Scratch} {x : Refusal} → PlansRecords s q k c (NoPlan x) c' → (1 ≤ number_of x) × (number_of x ≤ 10)
+pub plan_numbers : {s q : List ℕ} {k : ℕ} {c c' : Scratch} {x : Refusal} → PlansRecords s q k c (NoPlan x) c' → (1 ≤ number_of x) × (number_of x ≤ 10)
 unfolding plan_checks
-plan-numbers {s} {q} {k} {c} {x = x} P = go (check_shared s q) refl
+plan_numbers {s} {q} {k} {c} {x = x} P = go (check_shared s q) refl
   where
     told : NoPlan x ≡ records_answer s q k (length c.words) (length c.floats)
     told = planned_told (NoPlan x) _ P.answer

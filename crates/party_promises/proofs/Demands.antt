@@ -48,7 +48,7 @@ share_determined B C = answers.one B C
 
 pub records_determined : {s q : List ℕ} {k : ℕ} {c c' c'' : Scratch} {r t : Planned}
     → PlansRecords s q k c r c' → PlansRecords s q k c t c'' → (r ≡ t) × (c' ≡ c'')
-records_determined P Q = answers.one-plan P Q
+records_determined P Q = answers.one_plan P Q
 
 pub share_allowed : (s q : List ℕ) (m k : Shares) (b : Buffers) → BuildsShare s q m k b (share_answer s q m k (lent b))
     (record {
@@ -68,7 +68,7 @@ share_numbered B = answers.numbers B
 
 pub records_numbered : {s q : List ℕ} {k : ℕ} {c c' : Scratch} {x : Refusal}
     → PlansRecords s q k c (NoPlan x) c' → (1 ≤ number_of x) × (number_of x ≤ 10)
-records_numbered P = answers.plan-numbers P
+records_numbered P = answers.plan_numbers P
 
 -- 'A refusal alters no output place'
 pub share_refused_nothing : {s q : List ℕ} {m k : Shares} {b b' : Buffers} {x : Refusal}
@@ -87,7 +87,7 @@ share_scratch_cleared B h l = answers.emptied B h l
 
 pub share_scratch_after_mesh : {s q : List ℕ} {m k : Shares} {b b' : Buffers} {c : Counts}
     → BuildsShare s q m k b (Mesh c) b' → b'.scratch ≡ cleared (head_of s) b.scratch
-share_scratch_after_mesh B = answers.emptied-after B
+share_scratch_after_mesh B = answers.emptied_after B
 
 -- ==== '4 also if S is not 0 or the records are not whole or above 65,535'; '20 shares overlap or leave a buffer, after
 -- 8 and before 9'
@@ -114,7 +114,7 @@ pub good_by : (o : Outs) (m k : Shares) → Fits m o → Fits k o → Apart m k 
 good_by o m k f g a = answers.by o m k f g a
 
 pub good_for_both : (o : Outs) (m k : Shares) → GoodShares o m k → GoodShares o k m
-good_for_both o m k g = answers.for-both o m k g
+good_for_both o m k g = answers.for_both o m k g
 
 -- ==== 'answers as the job with those records would in that share, corners and starts counted from 0 there'
 

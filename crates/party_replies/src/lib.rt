@@ -1,5 +1,7 @@
 // The answers to requests of one of two parties, to build in its shares and to plan with its records, sent to a sink. The calls are those that C links; what is
 // lent to them holds the patterns of the protocol.
+#![tactic(auto)]
+
 ghost use Rattle.std.specs.Prelude.{◌≡◌, ◌+◌, ◌≤◌, length};
 ghost use Rattle.lists.specs.Put.{put};
 ghost use Rattle.party_replies.specs.Bytes.{numbers_at, shares_for, job_at};

@@ -1,4 +1,6 @@
 // The first line at fault, found with the tables of a survey.
+#![tactic(auto)]
+
 ghost use Rattle.std.specs.Prelude.{◌≡◌, false};
 ghost use Rattle.appearance.specs.Index.{Keyed};
 ghost use Rattle.pdb_file.specs.Reading.{records, atoms_of, names};

@@ -1,4 +1,6 @@
 // Numbers in the columns of a line.
+#![tactic(auto)]
+
 ghost use Rattle.std.specs.Prelude.{◌≡◌, false, ◌+◌, ◌*◌, ◌-◌, ◌^◌, ◌<◌, ◌≤◌, length, drop};
 ghost use Rattle.pdb_fields.specs.Numbers.{run, is_blank, is_digit, lead, whole, thousandths};
 ghost use Rattle.pdb_fields.specs.Post.{Digits};

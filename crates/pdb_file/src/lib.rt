@@ -1,4 +1,6 @@
 // A walk over the records of a PDB file.
+#![tactic(auto)]
+
 ghost use Rattle.std.specs.Prelude.{◌≡◌, true, false, ◌≤◌, length};
 ghost use Rattle.pdb_file.specs.Reading.{stops, saw, atoms_of};
 ghost use Rattle.pdb_file.specs.Faults.{found_in, first_atom, is_found, is_clean};

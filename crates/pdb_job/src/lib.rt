@@ -1,4 +1,6 @@
 // The job that a PDB file stands for: what it is (specs/Structure), and its bytes, written by the tables of a survey.
+#![tactic(auto)]
+
 pub mod records;
 
 ghost use Rattle.std.specs.Prelude.{◌≡◌, ◌≤◌, length};

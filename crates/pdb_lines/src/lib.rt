@@ -1,4 +1,6 @@
 // Lines and columns of a text file.
+#![tactic(auto)]
+
 ghost use Rattle.std.specs.Prelude.{◌≡◌, true, false, ℕ, ◌+◌, ◌-◌, ◌<◌, ◌≤◌, length, drop, get_or};
 ghost use Rattle.pdb_lines.specs.Columns.{named};
 ghost use Rattle.pdb_lines.specs.Post.{ending, Plain, Cut};

@@ -2,8 +2,7 @@
 ghost use Rattle.std.specs.Prelude.{◌≤◌, length};
 
 use crate::quote::say_bytes;
-use files::say;
-use libc::STDERR_FILENO;
+use files::{STDERR_FILENO, say};
 use pdb_fields::Number;
 use pdb_records::{Kind, Record};
 

@@ -1,14 +1,15 @@
 // What a person is told of a PDB file, on standard error: what was read, what was left out, and where a refused file is at fault. None of it is a refusal, and no
 // answer depends on it: a line that begins with `note:` goes with a job that was written.
+#![tactic(auto)]
+
 mod fault;
 mod left_out;
 mod quote;
 
 use fault::{Blame, blame_line};
-use files::say;
+use files::{STDERR_FILENO, say};
 use job::Refusal;
 use left_out::count_residues;
-use libc::STDERR_FILENO;
 use pdb_search::{Next, What, count_lines, next_line};
 use quote::say_bytes;
 

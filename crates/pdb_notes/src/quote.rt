@@ -1,7 +1,7 @@
 // Bytes of a file on a terminal: nothing that is written here can move its cursor.
 ghost use Rattle.std.specs.Prelude.{◌≤◌, ◌≡◌, length};
 
-use libc::STDERR_FILENO;
+use files::STDERR_FILENO;
 
 // A printing ASCII character is shown as it is, any other byte as a question mark.
 fn shown(b: u8) -> u8 {

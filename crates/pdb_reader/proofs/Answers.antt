@@ -41,9 +41,9 @@ limited x e =
       atoms = ltb-false 65535 (length x.atoms) d.1;
     }
 
-pub residues-past : (x : Structure) → 16384 < residues_of x.atoms → past_limits x ≡ true
+pub residues_past : (x : Structure) → 16384 < residues_of x.atoms → past_limits x ≡ true
 unfolding past_limits
-residues-past x h = rw (lt-ltb 16384 (residues_of x.atoms) h) (or-true (ltb 255 (chains_of x.atoms)))
+residues_past x h = rw (lt-ltb 16384 (residues_of x.atoms) h) (or-true (ltb 255 (chains_of x.atoms)))
 
 module _ (x : Structure) (c : FileCounts) (g : ℕ) (C : Counted x c g) where
   past : (n : ℕ) {a b : ℕ} → a ≡ b → n < a → ltb n b ≡ true
@@ -52,45 +52,45 @@ module _ (x : Structure) (c : FileCounts) (g : ℕ) (C : Counted x c g) where
   within : (n : ℕ) {a b : ℕ} → a ≡ b → a ≤ n → ltb n b ≡ false
   within n {a} {b} e h = le-ltb n b (subst (λ (m : ℕ). m ≤ n) e h)
 
-  pub past-residues : c.more ≡ true → true ≡ past_limits x
-  past-residues e = sym (residues-past x (C.past e))
+  pub past_residues : c.more ≡ true → true ≡ past_limits x
+  past_residues e = sym (residues_past x (C.past e))
 
   module _ (m : c.more ≡ false) where
     few : ltb 16384 (residues_of x.atoms) ≡ false
     few = le-ltb 16384 (residues_of x.atoms) (C.few m)
 
-    pub past-chains : 255 < c.chains → true ≡ past_limits x
+    pub past_chains : 255 < c.chains → true ≡ past_limits x
     unfolding past_limits
-    past-chains h = rw (past 255 (C.chains m) h)
+    past_chains h = rw (past 255 (C.chains m) h)
 
     module _ (h₁ : c.chains ≤ 255) where
-      pub past-segments : 65535 < g → true ≡ past_limits x
+      pub past_segments : 65535 < g → true ≡ past_limits x
       unfolding past_limits
-      past-segments h = rw (within 255 (C.chains m) h₁, few, past 65535 C.segments_are h)
+      past_segments h = rw (within 255 (C.chains m) h₁, few, past 65535 C.segments_are h)
 
-      pub past-atoms : g ≤ 65535 → ltb 65535 c.atoms ≡ past_limits x
+      pub past_atoms : g ≤ 65535 → ltb 65535 c.atoms ≡ past_limits x
       unfolding past_limits
-      past-atoms h = rw (within 255 (C.chains m) h₁, few, within 65535 C.segments_are h, C.atoms m)
+      past_atoms h = rw (within 255 (C.chains m) h₁, few, within 65535 C.segments_are h, C.atoms m)
 
 -- ---- 15 and 16
 module _ (x : Structure) (out : List ℕ) where
-  pub refuse-limits : (r : Read) → r ≡ NoJob PastLimits → past_limits x ≡ true → r ≡ read_checks x (length out)
+  pub refuse_limits : (r : Read) → r ≡ NoJob PastLimits → past_limits x ≡ true → r ≡ read_checks x (length out)
   unfolding read_checks
-  refuse-limits r e m = e ∙ simp m
+  refuse_limits r e m = e ∙ simp m
 
   module _ (few : past_limits x ≡ false) (size : ℕ) (is : size ≡ structure_size x) where
-    pub refuse-room : length out < size → NoJob (NoJobRoom size) ≡ read_checks x (length out)
+    pub refuse_room : length out < size → NoJob (NoJobRoom size) ≡ read_checks x (length out)
     unfolding read_checks
-    refuse-room h = simp (few, lt-ltb (length out) (structure_size x) (subst (λ (n : ℕ). length out < n) is h)) (ap (λ (n : ℕ). NoJob (NoJobRoom n)) is)
+    refuse_room h = simp (few, lt-ltb (length out) (structure_size x) (subst (λ (n : ℕ). length out < n) is h)) (ap (λ (n : ℕ). NoJob (NoJobRoom n)) is)
 
     pub accept : size ≤ length out → Written size ≡ read_checks x (length out)
     unfolding read_checks
     accept h = simp (few, le-ltb (length out) (structure_size x) (subst (λ (n : ℕ). n ≤ length out) is h)) (ap Written is)
 
 -- ---- the survey's tables at the start, and what it told
-pub empty-tables : Noted (replicate 16384 0) (replicate 32768 0) (replicate 32768 0) (replicate 256 0) (record { atoms = 0; residues = 0; chains = 0; more = false }) []
+pub empty_tables : Noted (replicate 16384 0) (replicate 32768 0) (replicate 32768 0) (replicate 256 0) (record { atoms = 0; residues = 0; chains = 0; more = false }) []
 unfolding last distinct member numbered
-empty-tables = noted_whole _ _ _ _ _ [] refl (record {
+empty_tables = noted_whole _ _ _ _ _ [] refl (record {
   atoms = refl;
   residues = record {
     index = empty_index (replicate 16384 0) (length-replicate {A = ℕ} 16384 0);
@@ -103,12 +103,12 @@ empty-tables = noted_whole _ _ _ _ _ [] refl (record {
 })
 
 -- tables that did not change
-pub noted-same : (keys keys' links links' ends marks : List ℕ) (c : FileCounts) (l : List AtomLine) → Noted keys links ends marks c l → keys' ≡ keys → links' ≡ links
+pub noted_same : (keys keys' links links' ends marks : List ℕ) (c : FileCounts) (l : List AtomLine) → Noted keys links ends marks c l → keys' ≡ keys → links' ≡ links
     → Noted keys' links' ends marks c l
-noted-same keys keys' links links' ends marks c l N e f = rw (e, f) N
+noted_same keys keys' links links' ends marks c l N e f = rw (e, f) N
 
-pub surveyed-counts : (s keys links ends marks : List ℕ) (v : Overview) → Surveyed s keys links ends marks v → is_clean (fault_in s) ≡ true → Counted (structure_of s) v.counts v.ahead
-surveyed-counts s keys links ends marks v S e = record {
+pub surveyed_counts : (s keys links ends marks : List ℕ) (v : Overview) → Surveyed s keys links ends marks v → is_clean (fault_in s) ≡ true → Counted (structure_of s) v.counts v.ahead
+surveyed_counts s keys links ends marks v S e = record {
   past = λ m. S.noted.past m;
   few = λ m. omega (arith, S.noted.known.index.few, (S.noted.known.all m).count);
   chains = λ m. (S.noted.whole m).chains.count;
@@ -125,9 +125,9 @@ reads : (s out : List ℕ) (r : Read) (out' : List ℕ)
 reads s out r out' e b = record { answer = cc; buffer = cc }
 
 module _ (s out : List ℕ) (f : Fault) (ef : f ≡ fault_in s) where
-  by-fault-is : (r : Read) → by_fault f (read_checks (structure_of s) (length out)) ≡ r → read_answer s (length out) ≡ r
+  by_fault_is : (r : Read) → by_fault f (read_checks (structure_of s) (length out)) ≡ r → read_answer s (length out) ≡ r
   unfolding read_answer
-  by-fault-is r e = ap (λ (g : Fault). by_fault g (read_checks (structure_of s) (length out))) (sym ef) ∙ e
+  by_fault_is r e = ap (λ (g : Fault). by_fault g (read_checks (structure_of s) (length out))) (sym ef) ∙ e
 
   by_answer : (r : Read) (out' : List ℕ) → read_answer s (length out) ≡ r → out' ≡ read_by r s out → Reads s out r out'
   unfolding buffer_after
@@ -137,7 +137,7 @@ module _ (s out : List ℕ) (f : Fault) (ef : f ≡ fault_in s) where
   pub refused : (r : Read) → r ≡ by_fault f (NoJob PastLimits)
       → (is_clean f ≡ true → past_limits (structure_of s) ≡ true) → Reads s out r out
   unfolding read_checks
-  refused r er past = by_answer r out (by-fault-is r (go f past ∙ sym er)) (rw er (kept f))
+  refused r er past = by_answer r out (by_fault_is r (go f past ∙ sym er)) (rw er (kept f))
     where
       go : (g : Fault) → (is_clean g ≡ true → past_limits (structure_of s) ≡ true)
           → by_fault g (read_checks (structure_of s) (length out)) ≡ by_fault g (NoJob PastLimits)
@@ -154,4 +154,4 @@ module _ (s out : List ℕ) (f : Fault) (ef : f ≡ fault_in s) where
 
   pub right : is_clean f ≡ true → (r : Read) (out' : List ℕ)
       → r ≡ read_checks (structure_of s) (length out) → out' ≡ read_by r s out → Reads s out r out'
-  right c r out' er eo = by_answer r out' (by-fault-is r (rw (clean_is f c) (sym er))) eo
+  right c r out' er eo = by_answer r out' (by_fault_is r (rw (clean_is f c) (sym er))) eo

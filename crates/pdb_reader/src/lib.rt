@@ -1,5 +1,7 @@
 // The public call `read_pdb`: from the bytes of a PDB file to a version 1 job in a lent buffer, or one refusal. What it promises,
 // `Reads`, stands in specs/Call.
+#![tactic(auto)]
+
 ghost use Rattle.std.specs.Prelude.{◌≡◌, length};
 ghost use Rattle.pdb_file.specs.Reading.{atoms_of};
 ghost use Rattle.pdb_survey.specs.Tables.{Noted};

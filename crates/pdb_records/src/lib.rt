@@ -1,4 +1,6 @@
 // The records of a PDB file, line by line.
+#![tactic(auto)]
+
 ghost use Rattle.std.specs.Prelude.{◌≡◌, ◌+◌, ◌*◌, ◌-◌, ◌<◌, ◌≤◌, length};
 ghost use Rattle.pdb_fields.specs.Numbers.{whole, thousandths};
 ghost use Rattle.pdb_records.specs.Records.{line_kind, role_of, serial_of, residue_of, residue_columns, bits_of, segment_of, atom_of, of_kind};

@@ -1,5 +1,7 @@
 // The lines of a PDB file that tell what was read of it and what was not: C-alphas in ATOM lines and in HETATM lines, END lines, MODEL lines, lines that are nearly
 // a record. No answer of a call depends on them; what a person is told does.
+#![tactic(auto)]
+
 ghost use Rattle.std.specs.Prelude.{◌≡◌, false, ◌&&◌, cond, ◌≤◌, length};
 ghost use Rattle.pdb_lines.specs.Columns.{named};
 ghost use Rattle.pdb_records.specs.Records.{atom_of};

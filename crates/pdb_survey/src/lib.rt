@@ -1,4 +1,6 @@
 // One walk over a PDB file: the faults that lines have by themselves, the counts, and tables of its residues and chains.
+#![tactic(auto)]
+
 ghost use Rattle.std.specs.Prelude.{◌≡◌, List, [], ◌∷◌, ◌++◌, ℕ, ◌+◌, ◌<◌, ◌≤◌, false};
 ghost use Rattle.appearance.specs.Index.{Index};
 ghost use Rattle.pdb_file.specs.Reading.{atoms_in};

@@ -1,4 +1,6 @@
 // Which of the residues that segments name a file has. Where there are more than the tables of a survey hold, many are looked for in one walk.
+#![tactic(auto)]
+
 ghost use Rattle.std.specs.Prelude.{◌≡◌, true, false, List, [], ◌∷◌, ◌++◌, ℕ, ◌≤◌, length};
 ghost use Rattle.appearance.specs.Index.{Index};
 ghost use Rattle.pdb_records.specs.declared.AtomLine.{AtomLine};

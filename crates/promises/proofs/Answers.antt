@@ -104,9 +104,9 @@ numbers s b b' q B = go (exit s b (NoMesh q) (built_is B))
     go (mesh r t y) = mesh_or_not (sym y)
 
 -- refusal 11 means what it says
-pub for-room : (s : List ℕ) (b b' : Buffers) (k v t : ℕ) → Builds s b (NoMesh (NoRoom k v t)) b'
+pub for_room : (s : List ℕ) (b b' : Buffers) (k v t : ℕ) → Builds s b (NoMesh (NoRoom k v t)) b'
     → Buildable s b.scratch × ((k ≡ length (tubes_in s)) × (v ≡ vertex_sum (tubes_in s)) × (t ≡ triangle_sum (tubes_in s))) × Shorter b.outs (counts_of (tubes_in s))
-for-room s b b' k v t B = go (exit s b (NoMesh (NoRoom k v t)) (built_is B))
+for_room s b b' k v t B = go (exit s b (NoMesh (NoRoom k v t)) (built_is B))
   where
     other : {A : Type 0} (x : Refusal) → number_of x < 11 → NoMesh (NoRoom k v t) ≡ NoMesh x → A
     other x h e = absurd (omega (arith, ap number_of (same_refusal e)))

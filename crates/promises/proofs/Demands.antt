@@ -211,7 +211,7 @@ pub room_means : {s : List ℕ} {b b' : Buffers} {k v t : ℕ} → Builds s b (N
     → Buildable s b.scratch
     × ((k ≡ length (tubes_in s)) × (v ≡ vertex_sum (tubes_in s)) × (t ≡ triangle_sum (tubes_in s)))
     × Shorter b.outs (counts_of (tubes_in s))
-room_means B = build.for-room _ _ _ _ _ _ B
+room_means B = build.for_room _ _ _ _ _ _ B
 
 -- ==== 02 §2: 'Two models placed by their boxes crossed: rings stand out from the curve. A box now takes the vertices
 -- of its tube, caps included ..' On each axis a, 0 for x, 1 for y, 2 for z, and of each tube k, by its record in the

@@ -25,7 +25,7 @@ use Rattle.promises.specs.Meshes.{protein_in, tubes_in, Buildable, Shorter, Room
 use Rattle.promises.proofs.Tubes.{list_long_of, each_most}
 use Rattle.promises.proofs.Told.{built_is}
 use Rattle.promises.proofs.Checks.{enough_more}
-use Rattle.promises.proofs.Answers.{meshed, built, unbuilt, for-room}
+use Rattle.promises.proofs.Answers.{meshed, built, unbuilt, for_room}
 use Rattle.promises.proofs.Plans.{planned}
 use Rattle.promises.proofs.Parts as parts
 
@@ -86,7 +86,7 @@ then_refused s k c c' n f b b' r P N h B =
 pub room_then : (s : List ℕ) (b b' d d' : Buffers) (k v t : ℕ) (r : Built) → Builds s b (NoMesh (NoRoom k v t)) b' → NoLess b.scratch d.scratch
     → RoomFor d.outs (record { tubes = k; vertices = v; triangles = t }) → Builds s d r d' → r ≡ Mesh (record { tubes = k; vertices = v; triangles = t })
 room_then s b b' d d' k v t r B N room D =
-    let M = for-room s b b' k v t B in
+    let M = for_room s b b' k v t B in
     let n : Counts = record { tubes = k; vertices = v; triangles = t } in
     let e : n ≡ counts_of (tubes_in s) = rw (M.1.0, M.1.1, M.1.2) in
     built_is D ∙ built s d (still s b.scratch d.scratch N M.0) (subst (RoomFor d.outs) e room) ∙ ap Mesh (sym e)

@@ -1,5 +1,7 @@
 // What the calls build and plan answer. The crate has no code but these two types: specs/Calls says what the calls promise, and
 // proofs/Demands what follows from that.
+#![tactic(auto)]
+
 use buffers::Counts;
 use job::Refusal;
 use walk::Five;

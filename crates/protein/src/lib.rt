@@ -1,4 +1,6 @@
 // What the bytes of a job say, once checks 1 to 4 have passed: each field by its name, and where atoms stand.
+#![tactic(auto)]
+
 ghost use Rattle.std.specs.Prelude.{◌≡◌, ◌≤◌, ◌<◌};
 ghost use Rattle.protein.specs.Layout.{Whole, records_of, atom_at};
 ghost use Rattle.protein.specs.Job.{job_of, segments_of, shown_code};

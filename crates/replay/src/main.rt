@@ -1,6 +1,7 @@
 // Replays requests that were recorded with the oracle's answers, with no Rust at hand, and says which is answered otherwise.
-use files::Filled;
-use libc::STDOUT_FILENO;
+#![tactic(auto)]
+
+use files::{Filled, STDOUT_FILENO, Source};
 use serve::{End, Run};
 use stream::sink::{Mode, Sink};
 
@@ -13,7 +14,7 @@ fn say(before: &[u8], n: u64, after: &[u8]) -> bool {
 }
 
 // The requests have ended; so must the answers.
-fn report_end(answers: i32, answered: u64) -> bool {
+fn report_end(answers: &Source, answered: u64) -> bool {
     let mut more = [0u8; 1];
     let got = files::fill(answers, &mut more);
     match got {
@@ -23,15 +24,15 @@ fn report_end(answers: i32, answered: u64) -> bool {
             false
         }
         Filled::Cut => false,
-        Filled::Failed => {
-            os::fail(b"answers.bin");
+        Filled::Failed(why) => {
+            files::fail(b"answers.bin", why);
             false
         }
     }
 }
 
 // Whether every request was answered as recorded, and all of them are there.
-fn report(run: Run, answers: i32) -> bool {
+fn report(run: Run, answers: &Source) -> bool {
     let answered = run.answered;
     let end = run.end;
     match end {
@@ -44,11 +45,11 @@ fn report(run: Run, answers: i32) -> bool {
             );
             false
         }
-        End::Unread => {
-            os::fail(b"requests.bin");
+        End::Unread(why) => {
+            files::fail(b"requests.bin", why);
             false
         }
-        End::Unsent => {
+        End::Unsent(_) => {
             say(
                 b"request ",
                 answered,
@@ -59,33 +60,23 @@ fn report(run: Run, answers: i32) -> bool {
     }
 }
 
-fn open(path: &[u8]) -> i32 {
-    let file = os::open_read(path);
-    if file < 0 {
-        os::fail(path);
-    }
-    file
-}
-
 // Whether both files are there and agree.
-fn replay() -> bool {
-    let requests = open(b"requests.bin");
-    if requests < 0 {
+fn replay(rt: &HostRuntime) -> bool {
+    let Some(requests) = files::open(rt, b"requests.bin") else {
         return false;
-    }
-    let answers = open(b"answers.bin");
-    if answers < 0 {
+    };
+    let Some(answers) = files::open(rt, b"answers.bin") else {
         return false;
-    }
+    };
     let s = Sink {
-        mode: Mode::Compare,
-        file: answers,
+        mode: Mode::Compare(answers.descriptor()),
         at: 0,
         good: true,
+        why: 0,
     };
-    report(serve::serve_all(requests, s), answers)
+    report(serve::serve_all(&requests, s), &answers)
 }
 
-fn main() {
-    files::end(replay());
+fn main(rt: HostRuntime) {
+    files::end(replay(&rt));
 }

@@ -1,4 +1,6 @@
 // The answer to one request to the ribbon builder, sent to a sink. Each call gets buffers that hold the patterns of the protocol; the calls are those that C links.
+#![tactic(auto)]
+
 ghost use Rattle.std.specs.Prelude.{◌≡◌, ◌+◌, ◌*◌, length};
 ghost use Rattle.replies.specs.Sized.{Sized};
 ghost use Rattle.stream.specs.Requests.{Within, own};

@@ -1,11 +1,12 @@
 // What `ribbon` tells a person on standard error: what was read, what was built, how large it is, and at which scale a printer can make it. No byte of the model
 // depends on it.
+#![tactic(auto)]
+
 ghost use Rattle.std.specs.Prelude.{◌+◌, ◌*◌, ◌<◌, ◌≤◌, length};
 ghost use Rattle.protein.specs.Layout.{Whole};
 
 use buffers::Counts;
-use files::say;
-use libc::STDERR_FILENO;
+use files::{STDERR_FILENO, say};
 use protein::Head;
 
 // The sides of a model, in angstrom.

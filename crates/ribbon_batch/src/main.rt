@@ -1,11 +1,12 @@
 // The program `ribbon-batch`: answers requests on standard input, one after the other, until it ends. Where it does not end behind a request, or an answer cannot
 // be written, it says so on standard error.
-use files::say;
-use libc::{STDIN_FILENO, STDOUT_FILENO};
+#![tactic(auto)]
+
+use files::{Source, say};
 use serve::End;
 use stream::sink::{Mode, Sink};
 
-// Whether every request was answered; the errno of a failed read or write is that of the last call.
+// Whether every request was answered.
 fn report(end: End) -> bool {
     match end {
         End::Whole => true,
@@ -13,25 +14,25 @@ fn report(end: End) -> bool {
             say(b"ribbon-batch: the input ends within a request, which is not answered\n");
             false
         }
-        End::Unread => {
-            os::fail(b"ribbon-batch: the input cannot be read");
+        End::Unread(why) => {
+            files::fail(b"ribbon-batch: the input cannot be read", why);
             false
         }
-        End::Unsent => {
-            os::fail(b"ribbon-batch: an answer cannot be written");
+        End::Unsent(why) => {
+            files::fail(b"ribbon-batch: an answer cannot be written", why);
             false
         }
     }
 }
 
-fn main() {
+fn main(rt: HostRuntime) {
     let s = Sink {
-        mode: Mode::Write,
-        file: STDOUT_FILENO,
+        mode: Mode::Write(rt.stdout()),
         at: 0,
         good: true,
+        why: 0,
     };
-    let run = serve::serve_all(STDIN_FILENO, s);
+    let run = serve::serve_all(&Source::Standard(rt), s);
     let end = run.end;
     files::end(report(end));
 }

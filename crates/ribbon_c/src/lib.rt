@@ -1,4 +1,6 @@
 // The calls for C and Rust: a slice is a pointer and a length, and an answer is words in a lent array. What they promise stands in specs/Words.
+#![tactic(auto)]
+
 ghost use Rattle.std.specs.Prelude.{◌≡◌, ◌+◌, ◌≤◌, length};
 ghost use Rattle.job.specs.Refusals.{refusal_numbers};
 ghost use Rattle.buffers.specs.Outs.{outs, held, holds};

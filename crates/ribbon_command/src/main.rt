@@ -1,14 +1,16 @@
 // The program behind `ribbon`: reads a PDB file, the one that is named or standard input, and writes its model, a binary STL file, to standard output. Its words
 // are ROOM, which is large where the system gives it a long stack and small where not, the scale in millimetres for an angstrom, and the file.
-ghost use Rattle.std.specs.Prelude.{◌+◌, ◌≤◌, ◌≡◌, length};
+#![tactic(auto)]
+
+ghost use Rattle.std.specs.Prelude.{◌+◌, ◌≤◌, ◌≡◌, length, IfSome};
 ghost use Rattle.buffers.specs.Outs.{outs};
 ghost use Rattle.room.specs.Room.{buffers};
 ghost use Rattle.model_theorems.specs.Large.{LargeRoom, large_job};
 
-use files::say;
-use libc::{STDIN_FILENO, STDOUT_FILENO};
+use files::{Source, say};
 use model::{Made, Wish};
 use scaling::Factor;
+use std::io::Stdout;
 use words::Else;
 
 // Room in two sizes. A file and a mesh that fit the small one stay below the 8 MiB that a system gives a program's stack; the large one has room for every mesh
@@ -159,24 +161,26 @@ fn in_large_room(file: &[u8], w: Wish) -> u8 {
     ))
 }
 
-// Reads a file on, behind the n bytes of it that stand in the room, and answers how many there are then; -1 where a read failed, or the file changed meanwhile,
+// Reads a file on, behind the n bytes of it that stand in the room, and answers how many there are then; none where a read failed, or the file changed meanwhile,
 // which was then said. A full room says that the file may be longer.
-fn read_on(from: i32, room: &mut [u8], n: usize, what: &[u8]) -> isize
+fn read_on(from: &Source, room: &mut [u8], n: usize, what: &[u8]) -> Option<usize>
     requires { n ≤ length room.old }
+    ensures { IfSome result (λ all. all ≤ length room.new) }
 {
-    let got = files::read_all(from, &mut room[n..]);
-    if got < 0 {
-        os::fail(what);
-        return -1;
-    }
-    let all = n + io::count(got, &room[n..]);
+    let all = match files::read_all(from, &mut room[n..]) {
+        Ok(got) => n + got,
+        Err(why) => {
+            files::fail(what, why);
+            return None;
+        }
+    };
     if all < room.len() {
-        if !files::is_settled(from) {
+        if !files::is_settled(from, all) {
             words::explain_else(Else::Changed);
-            return -1;
+            return None;
         }
     }
-    all as isize
+    Some(all)
 }
 
 // The bytes that were read before, at the front of longer room.
@@ -190,7 +194,7 @@ fn copy(head: &[u8], room: &mut [u8])
     }
 }
 
-fn in_longest_file(from: i32, head: &[u8], w: Wish, what: &[u8]) -> u8
+fn in_longest_file(from: &Source, head: &[u8], w: Wish, what: &[u8]) -> u8
     requires { length head.now ≤ 16777217 }
 {
     let mut file = longest_file();
@@ -198,11 +202,9 @@ fn in_longest_file(from: i32, head: &[u8], w: Wish, what: &[u8]) -> u8
         b"note: the file is longer than 16777216 bytes; all of it is read before anything is built\n",
     );
     copy(head, &mut file);
-    let got = read_on(from, &mut file, head.len(), what);
-    if got < 0 {
+    let Some(n) = read_on(from, &mut file, head.len(), what) else {
         return 2;
-    }
-    let n = io::count(got, &file);
+    };
     if n < 134217729 {
         return in_large_room(&file[..n], w);
     }
@@ -210,20 +212,18 @@ fn in_longest_file(from: i32, head: &[u8], w: Wish, what: &[u8]) -> u8
     1
 }
 
-fn in_long_file(from: i32, head: &[u8], w: Wish, what: &[u8]) -> u8
+fn in_long_file(from: &Source, head: &[u8], w: Wish, what: &[u8]) -> u8
     requires { length head.now ≤ 1500001 }
 {
     let mut file = long_file();
     copy(head, &mut file);
-    let got = read_on(from, &mut file, head.len(), what);
-    if got < 0 {
+    let Some(n) = read_on(from, &mut file, head.len(), what) else {
         return 2;
-    }
-    let n = io::count(got, &file);
+    };
     if n < 16777217 {
         return in_large_room(&file[..n], w);
     }
-    if from == STDIN_FILENO {
+    if from.is_standard() {
         return in_longest_file(
             from,
             &file[..n],
@@ -236,22 +236,22 @@ fn in_long_file(from: i32, head: &[u8], w: Wish, what: &[u8]) -> u8
 
 // A file that is longer than the small room. The longer ones are called for from two places, since a function that is called from one alone, or is short, is made
 // a part of its caller: that would need the long stack even where the small room serves, and every page of a stack is touched when its function begins.
-fn in_more_room(from: i32, head: &[u8], w: Wish, large: bool) -> u8
+fn in_more_room(from: &Source, head: &[u8], w: Wish, large: bool) -> u8
     requires { length head.now ≤ 1500001 }
 {
     if !large {
         words::explain_else(Else::NoStack);
         return 1;
     }
-    if from == STDIN_FILENO {
+    if from.is_standard() {
         return in_long_file(from, head, w, b"ribbon: standard input cannot be read");
     }
     in_long_file(from, head, w, b"ribbon: the file cannot be read")
 }
 
-fn wish(m: u32, factor: f32, more: bool) -> Wish {
+fn wish(to: Stdout, m: u32, factor: f32, more: bool) -> Wish {
     Wish {
-        to: STDOUT_FILENO,
+        to,
         thousandths: m,
         factor,
         more,
@@ -259,58 +259,57 @@ fn wish(m: u32, factor: f32, more: bool) -> Wish {
 }
 
 // The front of the file.
-fn read_front(from: i32, room: &mut [u8]) -> isize {
-    if from == STDIN_FILENO {
+fn read_front(from: &Source, room: &mut [u8]) -> Option<usize>
+    ensures { IfSome result (λ n. n ≤ length room.new) }
+{
+    if from.is_standard() {
         return read_on(from, room, 0, b"ribbon: standard input cannot be read");
     }
     read_on(from, room, 0, b"ribbon: the file cannot be read")
 }
 
 // In the small room, and, where that is too short and there is a large one, in that. The status by which the program ends.
-fn start(from: i32, m: u32, factor: f32, large: bool) -> u8 {
+fn start(from: &Source, to: Stdout, m: u32, factor: f32, large: bool) -> u8 {
     let mut file = short_file();
-    let got = read_front(from, &mut file);
-    if got < 0 {
+    let Some(n) = read_front(from, &mut file) else {
         return 2;
-    }
-    let n = io::count(got, &file);
+    };
     if n == 1500001 {
-        return in_more_room(from, &file[..n], wish(m, factor, false), large);
+        return in_more_room(from, &file[..n], wish(to, m, factor, false), large);
     }
-    let made = in_small_room(&file[..n], wish(m, factor, large));
+    let made = in_small_room(&file[..n], wish(to, m, factor, large));
     let Made::Short = made else {
         return status_of(made);
     };
-    in_large_room(&file[..n], wish(m, factor, false))
+    in_large_room(&file[..n], wish(to, m, factor, false))
 }
 
 // Whether an argument is the word.
-fn is_word(i: usize, word: &[u8]) -> bool {
+fn is_word(rt: &HostRuntime, i: usize, word: &[u8]) -> bool {
     let mut text = io::buffer();
-    let n = os::arg(i, &mut text);
+    let n = files::argument(rt, i, &mut text);
     if n != word.len() {
         return false;
     }
     pdb_lines::is_at(&text[..n], 0, word)
 }
 
-fn run(m: u32, large: bool) -> u8
+fn run(rt: &HostRuntime, m: u32, large: bool) -> u8
     requires { m ≤ 1000000 }
 {
-    let from = files::open_argument(3);
-    if from < 0 {
+    let Some(from) = files::open_argument(rt, 3) else {
         return 2;
-    }
-    start(from, m, scaling::factor_of(m), large)
+    };
+    start(&from, rt.stdout(), m, scaling::factor_of(m), large)
 }
 
 // The words are the room, the scale and the file.
-fn run_words() -> u8 {
+fn run_words(rt: &HostRuntime) -> u8 {
     let mut text = io::buffer();
-    let n = os::arg(2, &mut text);
+    let n = files::argument(rt, 2, &mut text);
     let f = scaling::factor_in(&text[..n]);
     match f {
-        Factor::Good(m) => run(m, is_word(1, b"large")),
+        Factor::Good(m) => run(rt, m, is_word(rt, 1, b"large")),
         Factor::Bad => {
             say(
                 b"ribbon: this is no scale: one to four digits and, if wanted, a point with one to three digits behind it, from 0.001 to 1000\n",
@@ -332,6 +331,6 @@ fn end(status: u8) {
     files::end_with(b"2");
 }
 
-fn main() {
-    end(run_words());
+fn main(rt: HostRuntime) {
+    end(run_words(&rt));
 }

@@ -1,7 +1,10 @@
 // The program `ribbon-job`: reads a PDB file, the one that is named or standard input, and writes its job to standard output. What was read, or why there is no
 // job, it says on standard error.
-use libc::STDOUT_FILENO;
+#![tactic(auto)]
+
+use files::Source;
 use pdb_reader::Read;
+use std::io::Stdout;
 use words::Else;
 
 // Room for a file and for its job. Each comes from a function of its own, since a proof that sees so long an array's zeros counts them one by one.
@@ -15,20 +18,20 @@ fn room_for_job() -> [u8; 2100000] {
 }
 
 // Says what was read, and writes the job, or says why it cannot be written: a job that is cut short is none.
-fn send(file: &[u8], job: &[u8]) -> bool {
+fn send(to: Stdout, file: &[u8], job: &[u8]) -> bool {
     pdb_notes::tell(file, job);
-    if io::write_all(STDOUT_FILENO, job) {
-        return true;
+    if let Err(why) = files::write(to, job) {
+        files::fail(b"ribbon-job: the job cannot be written", why);
+        return false;
     }
-    os::fail(b"ribbon-job: the job cannot be written");
-    false
+    true
 }
 
 // Whether the job was written whole.
-fn write_job(file: &[u8], job: &mut [u8]) -> bool {
+fn write_job(to: Stdout, file: &[u8], job: &mut [u8]) -> bool {
     let a = pdb_reader::read_pdb(file, job);
     match a {
-        Read::Written(n) => send(file, &job[..n]),
+        Read::Written(n) => send(to, file, &job[..n]),
         Read::NoJob(r) => {
             pdb_notes::tell_refused(file, r);
             false
@@ -36,28 +39,28 @@ fn write_job(file: &[u8], job: &mut [u8]) -> bool {
     }
 }
 
-// Whether the job of the file behind a descriptor was written.
-fn convert(from: i32) -> bool {
+// Whether the job of the file that is read was written.
+fn convert(from: &Source, to: Stdout) -> bool {
     let mut file = room_for_file();
     let mut job = room_for_job();
-    let got = files::read_all(from, &mut file);
-    if got < 0 {
-        os::fail(b"ribbon-job: the file cannot be read");
-        return false;
-    }
-    let n = io::count(got, &file);
+    let n = match files::read_all(from, &mut file) {
+        Ok(n) => n,
+        Err(why) => {
+            files::fail(b"ribbon-job: the file cannot be read", why);
+            return false;
+        }
+    };
     if 5000000 < n {
         words::explain_else(Else::LongFile);
         return false;
     }
-    write_job(&file[..n], &mut job)
+    write_job(to, &file[..n], &mut job)
 }
 
-fn main() {
-    let from = files::open_first();
-    if from < 0 {
+fn main(rt: HostRuntime) {
+    let Some(from) = files::open_first(&rt) else {
         files::end(false);
         return;
-    }
-    files::end(convert(from));
+    };
+    files::end(convert(&from, rt.stdout()));
 }

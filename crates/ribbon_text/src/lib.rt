@@ -1,4 +1,6 @@
 // The lines that `ribbon-plan` prints, written to a lent buffer of bytes.
+#![tactic(auto)]
+
 ghost use Rattle.std.specs.Prelude.{◌+◌, ◌≤◌, length};
 ghost use Rattle.io.specs.Counts.{IsPrefixLen};
 ghost use Rattle.job.specs.Refusals.{carried};

@@ -1,5 +1,7 @@
 // Writers of a ring, of a lone vertex, and of a ring with its cap's centre, to the three buffers at once. Each takes the tube's box further by the vertices
 // that it writes, since to read all positions a second time would cost a build much of its speed.
+#![tactic(auto)]
+
 ghost use Rattle.std.specs.Prelude.{◌≡◌, [], ◌∷◌, ◌++◌, ◌+◌, ◌*◌, ◌≤◌, length, replicate};
 ghost use Rattle.lists.specs.Put.{put};
 ghost use Rattle.vectors.specs.Vec.{floats, eight};

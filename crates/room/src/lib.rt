@@ -1,4 +1,6 @@
 // Check 9, the totals that a call begins with, and the scratch after a call that passed check 9. Check 11 is `buffers::is_tight`.
+#![tactic(auto)]
+
 ghost use Rattle.std.specs.Prelude.{◌≡◌, ◌*◌, ◌≤◌, length};
 ghost use Rattle.std.specs.Float.{binary32};
 ghost use Rattle.std.specs.Float.Ieee.{of_bits};

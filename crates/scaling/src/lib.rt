@@ -1,4 +1,6 @@
 // The size of a model: what a scale that a user writes means, and what it does to coordinates.
+#![tactic(auto)]
+
 ghost use Rattle.std.specs.Prelude.{◌≡◌, ◌+◌, ◌-◌, ◌^◌, ◌≤◌};
 ghost use Rattle.scaling.specs.Scale.{formed, within, factor_in, factor, scaled};
 

@@ -1,4 +1,6 @@
 // Lent scratch words: zeros in them. What tables there hold is said by Filled, and what stays by Kept.
+#![tactic(auto)]
+
 ghost use Rattle.std.specs.Prelude.{◌+◌, ◌≤◌, length};
 ghost use Rattle.scratch.specs.Scratch.{Filled};
 

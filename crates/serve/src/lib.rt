@@ -1,27 +1,30 @@
 // Reads requests to the ribbon builder and has them answered: what `ribbon_batch` and `replay` share.
+#![tactic(auto)]
+
 ghost use Rattle.std.specs.Prelude.{◌≡◌, ◌+◌, ◌<◌, length};
 ghost use Rattle.serve.specs.Heads.{Bounded, Answerable};
 ghost use Rattle.stl_replies.specs.Mesh.{mesh_of};
 ghost use Rattle.stream.specs.Requests.{own, Within, Serves, ServesMesh, SmallLengths};
 ghost use Rattle.stream.specs.Sinks.{SinkReady};
 
-use files::Filled;
+use files::{Filled, Source};
 use stream::requests::{Lengths, Request, is_mesh_served, is_party, is_served, request_of};
 use stream::sink::{Sink, flush, send_words};
 
 // Why no more requests are answered: the input ended behind a request; it ended within one; a read failed; or an answer did not go out whole or is not as recorded.
+// What failed has the system's number for why.
 #[derive(Drop)]
 pub enum End {
     Whole,
     Cut,
-    Unread,
-    Unsent,
+    Unread(i32),
+    Unsent(i32),
 }
 
-// What became of one request: answered, with whether the answer was written or was as recorded; or the input did not give it whole.
+// What became of one request: answered, with the sink behind the answer; or the input did not give it whole.
 #[derive(Drop)]
 enum Served {
-    Answered(bool),
+    Answered(Sink),
     Over(End),
 }
 
@@ -36,14 +39,14 @@ fn is_whole(got: Filled) -> bool {
         Filled::Whole => true,
         Filled::Nothing => false,
         Filled::Cut => false,
-        Filled::Failed => false,
+        Filled::Failed(_) => false,
     }
 }
 
 // The end of an input that did not give all bytes of a request.
 fn end_within(got: Filled) -> End {
     match got {
-        Filled::Failed => End::Unread,
+        Filled::Failed(why) => End::Unread(why),
         Filled::Whole => End::Cut,
         Filled::Nothing => End::Cut,
         Filled::Cut => End::Cut,
@@ -59,7 +62,7 @@ fn end_of(h: Head) -> End {
 }
 
 // Reads n bytes and forgets them.
-fn pass_over(from: i32, n: usize, bytes: &mut [u8]) -> Filled
+fn pass_over(from: &Source, n: usize, bytes: &mut [u8]) -> Filled
     requires { 0 < length bytes.old }
 {
     let mut left = n;
@@ -74,7 +77,7 @@ fn pass_over(from: i32, n: usize, bytes: &mut [u8]) -> Filled
 }
 
 // The answer to a request that the program does not serve is the one word FFFFFFFF.
-fn refuse(from: i32, s: Sink, n: usize, bytes: &mut [u8], out: &mut [u8]) -> Served
+fn refuse(from: &Source, s: Sink, n: usize, bytes: &mut [u8], out: &mut [u8]) -> Served
     requires { SinkReady s (length out.old) × (0 < length bytes.old) }
 {
     let got = pass_over(from, n, bytes);
@@ -83,12 +86,12 @@ fn refuse(from: i32, s: Sink, n: usize, bytes: &mut [u8], out: &mut [u8]) -> Ser
     }
     let none = [0xffff_ffffu32];
     let t = flush(send_words(s, out, &none), out);
-    Served::Answered(t.good)
+    Served::Answered(t)
 }
 
 // A request to read a file of n bytes into m lent ones.
 fn serve_read(
-    from: i32,
+    from: &Source,
     s: Sink,
     n: usize,
     m: usize,
@@ -110,12 +113,12 @@ fn serve_read(
     }
     let t = replies::answer_read(s, &bytes[..n], &mut lent[..m], out);
     let u = flush(t, out);
-    Served::Answered(u.good)
+    Served::Answered(u)
 }
 
 // A request to list the facets of a file. It has the lengths of its lent lists in the places of positions and normals.
 fn serve_list(
-    from: i32,
+    from: &Source,
     s: Sink,
     r: Request,
     corners: &mut [f32],
@@ -144,7 +147,7 @@ fn serve_list(
     }
     let t = stl_replies::answer_list(s, &bytes[..n], &mut corners[..n0], &mut normals[..n1], out);
     let u = flush(t, out);
-    Served::Answered(u.good)
+    Served::Answered(u)
 }
 
 // The lengths of the program's own arrays, for a request to write STL.
@@ -174,7 +177,7 @@ fn own_mesh(
 
 // A request to write STL that is served: its bytes are read, and it is answered.
 fn answer_mesh(
-    from: i32,
+    from: &Source,
     s: Sink,
     r: Request,
     positions: &mut [f32],
@@ -209,12 +212,12 @@ fn answer_mesh(
         out,
     );
     let u = flush(t, out);
-    Served::Answered(u.good)
+    Served::Answered(u)
 }
 
 // A request of call 5, to write STL, or of call 6, to list it.
 fn serve_stl(
-    from: i32,
+    from: &Source,
     s: Sink,
     r: Request,
     positions: &mut [f32],
@@ -246,7 +249,7 @@ fn is_stl(call: u8) -> bool {
     call == 5 || call == 6
 }
 
-fn read_head(from: i32) -> Head
+fn read_head(from: &Source) -> Head
     ensures { Bounded result }
 {
     let mut head = [0u8; 41];
@@ -255,7 +258,7 @@ fn read_head(from: i32) -> Head
         Filled::Whole => Head::Asks(request_of(&head)),
         Filled::Nothing => Head::Over(End::Whole),
         Filled::Cut => Head::Over(End::Cut),
-        Filled::Failed => Head::Over(End::Unread),
+        Filled::Failed(why) => Head::Over(End::Unread(why)),
     }
 }
 
@@ -290,7 +293,7 @@ fn reply(
 
 // A request that is served: its bytes are read, and it is answered.
 fn answer_next(
-    from: i32,
+    from: &Source,
     s: Sink,
     r: Request,
     positions: &mut [f32],
@@ -327,13 +330,13 @@ fn answer_next(
         out,
     );
     let u = flush(t, out);
-    Served::Answered(u.good)
+    Served::Answered(u)
 }
 
-// The next request on a descriptor, answered to the sink. The slices are the program's own arrays, of which a request is lent parts; lent are the bytes
+// The next request of an input, answered to the sink. The slices are the program's own arrays, of which a request is lent parts; lent are the bytes
 // that calls 4 and 5 are lent. Call 4 has the length of its lent job bytes in the place of positions.
 fn serve(
-    from: i32,
+    from: &Source,
     s: Sink,
     positions: &mut [f32],
     normals: &mut [f32],
@@ -402,9 +405,9 @@ fn end_of_served(a: Served) -> End {
     }
 }
 
-// Every request on a descriptor, answered to a sink whose block is empty. The positions have room for 9 floats of each of 20,969 facets, the most of an STL
+// Every request of an input, answered to a sink whose block is empty. The positions have room for 9 floats of each of 20,969 facets, the most of an STL
 // file that fits in the bytes. No loop here is endless: this one ends after 2^48 requests.
-pub fn serve_all(from: i32, s: Sink) -> Run
+pub fn serve_all(from: &Source, s: Sink) -> Run
     requires { s.at ≡ 0 }
 {
     let mut positions = [0.0f32; 188721];
@@ -435,16 +438,16 @@ pub fn serve_all(from: i32, s: Sink) -> Run
             &mut bytes,
             &mut out,
         );
-        let Served::Answered(good) = a else {
+        let Served::Answered(t) = a else {
             return Run {
                 answered: n,
                 end: end_of_served(a),
             };
         };
-        if !good {
+        if !t.good {
             return Run {
                 answered: n,
-                end: End::Unsent,
+                end: End::Unsent(t.why),
             };
         }
         n += 1;

@@ -1,4 +1,6 @@
 // The geometry of one sample of a tube, on values: spline, directions, half-sizes, cross-section.
+#![tactic(auto)]
+
 pub mod guides;
 pub mod section;
 pub mod spline;

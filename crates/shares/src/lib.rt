@@ -1,5 +1,7 @@
 // The shares that two parties have of the six output buffers (02 §5), and whether they are bad. What that means stands in specs/Shares; nothing is demanded
 // of the caller, so a start and a length are never added.
+#![tactic(auto)]
+
 ghost use Rattle.std.specs.Prelude.{◌≡◌};
 ghost use Rattle.buffers.specs.Outs.{sizes};
 ghost use Rattle.shares.specs.Shares.{leaves, meets, bad_share, bad_shares};

@@ -1,5 +1,7 @@
 // Smoothing a lent list of vectors in place (02 §3). A pass is over the old list: of what it has overwritten it needs the previous neighbour
 // alone, and keeps that.
+#![tactic(auto)]
+
 pub mod guides;
 pub mod positions;
 

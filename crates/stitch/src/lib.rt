@@ -1,4 +1,6 @@
 // Writes the triangles of a tube into a lent buffer, in the Rust's order: start cap inward, bands, end cap.
+#![tactic(auto)]
+
 ghost use Rattle.std.specs.Prelude.{◌≡◌, [], ◌∷◌, ◌+◌, ◌-◌, ◌*◌, ◌<◌, ◌≤◌, length};
 ghost use Rattle.lists.specs.Put.{put};
 ghost use Rattle.edges.specs.Tube.{vertex_count, triangle_count, cap_side, cap, band, tube};

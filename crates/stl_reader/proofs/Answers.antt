@@ -25,17 +25,17 @@ module _ (s : List ℕ) (l : Lists) where
   small h = rw (ne_eqb (length s) (stl_size (count_in s)) (λ e. omega arith))
 
   module _ (t : ℕ) (c : t ≡ count_in s) where
-    pub not-stl : (length s ≡ stl_size t → ⊥) → NoFacets NotStl ≡ answer_for s l
+    pub not_stl : (length s ≡ stl_size t → ⊥) → NoFacets NotStl ≡ answer_for s l
     unfolding list_answer is_stl
-    not-stl h = rw (ne_eqb (length s) (stl_size (count_in s)) (λ e. h (e ∙ ap stl_size (sym c))))
+    not_stl h = rw (ne_eqb (length s) (stl_size (count_in s)) (λ e. h (e ∙ ap stl_size (sym c))))
 
-    few-corners : length l.corners < 9 * t → few_places t (length l.corners) (length l.normals) ≡ true
+    few_corners : length l.corners < 9 * t → few_places t (length l.corners) (length l.normals) ≡ true
     unfolding few_places
-    few-corners h = rw (lt-ltb (length l.corners) (9 * t) h)
+    few_corners h = rw (lt-ltb (length l.corners) (9 * t) h)
 
-    few-normals : 9 * t ≤ length l.corners → length l.normals < 3 * t → few_places t (length l.corners) (length l.normals) ≡ true
+    few_normals : 9 * t ≤ length l.corners → length l.normals < 3 * t → few_places t (length l.corners) (length l.normals) ≡ true
     unfolding few_places
-    few-normals g h = rw (le-ltb (length l.corners) (9 * t) g, lt-ltb (length l.normals) (3 * t) h)
+    few_normals g h = rw (le-ltb (length l.corners) (9 * t) g, lt-ltb (length l.normals) (3 * t) h)
 
     enough : 9 * t ≤ length l.corners → 3 * t ≤ length l.normals → few_places t (length l.corners) (length l.normals) ≡ false
     unfolding few_places
@@ -53,11 +53,11 @@ module _ (s : List ℕ) (l : Lists) where
       unfolding list_answer is_stl
       room f = rw (is, ← c, f)
 
-      pub short-corners : length l.corners < 9 * t → NoFacets (NoStlRoom t) ≡ answer_for s l
-      short-corners h = no_room (few-corners h)
+      pub short_corners : length l.corners < 9 * t → NoFacets (NoStlRoom t) ≡ answer_for s l
+      short_corners h = no_room (few_corners h)
 
-      pub short-normals : 9 * t ≤ length l.corners → length l.normals < 3 * t → NoFacets (NoStlRoom t) ≡ answer_for s l
-      short-normals g h = no_room (few-normals g h)
+      pub short_normals : 9 * t ≤ length l.corners → length l.normals < 3 * t → NoFacets (NoStlRoom t) ≡ answer_for s l
+      short_normals g h = no_room (few_normals g h)
 
       pub listed : 9 * t ≤ length l.corners → 3 * t ≤ length l.normals → Facets t ≡ answer_for s l
       listed g h = room (enough g h)

@@ -19,7 +19,7 @@ use Rattle.facets.proofs.Laws.{long_listed_corners, long_listed_normals}
 use Rattle.stl_reader.specs.declared.Listed.{Listed}
 use Rattle.stl_reader.specs.declared.Listed.TheVariants.{Facets, NoFacets}
 use Rattle.stl_reader.specs.Call.{Lists, lists, ListRoom, ListShort, answer_for, lists_after, listed_numbers}
-use Rattle.stl_reader.proofs.Answers.{not-stl, short-corners, short-normals, listed}
+use Rattle.stl_reader.proofs.Answers.{not_stl, short_corners, short_normals, listed}
 
 -- an answer is told by its numbers
 pub listed_told : (r q : Listed) → listed_numbers r ≡ listed_numbers q → r ≡ q
@@ -40,16 +40,16 @@ module _ (s : List ℕ) (l : Lists) where
 
   at_short : length s ≡ stl_size t → ListShort t l → NoFacets (NoStlRoom t) ≡ answer_for s l
   at_short e h =
-      ⊎_elim (λ a. short-corners s l t refl e a)
+      ⊎_elim (λ a. short_corners s l t refl e a)
       (λ b. go (ltb (length l.corners) (9 * t)) refl b)
       h
     where
       go : (x : Bool) → ltb (length l.corners) (9 * t) ≡ x → length l.normals < 3 * t → NoFacets (NoStlRoom t) ≡ answer_for s l
-      go true q b = short-corners s l t refl e (ltb-true (length l.corners) (9 * t) q)
-      go false q b = short-normals s l t refl e (ltb-false (length l.corners) (9 * t) q) b
+      go true q b = short_corners s l t refl e (ltb-true (length l.corners) (9 * t) q)
+      go false q b = short_normals s l t refl e (ltb-false (length l.corners) (9 * t) q) b
 
   pub answer_of : (r : Listed) → Cause s l r → r ≡ answer_for s l
-  answer_of _ (unfit e) = not-stl s l t refl e
+  answer_of _ (unfit e) = not_stl s l t refl e
   answer_of _ (short e h) = at_short e h
   answer_of _ (fits e h) = listed s l t refl e h.corners h.normals
 

@@ -1,5 +1,7 @@
 // Reads a binary STL file (02 §4): lists the corners and the normals of its facets in two lent buffers. Nothing is demanded of whoever calls it; what it
 // promises, `ReadsStl`, stands in specs/Call.
+#![tactic(auto)]
+
 ghost use Rattle.stl_reader.specs.Call.{lists, ReadsStl};
 
 use job::Refusal;

@@ -1,5 +1,7 @@
 // The answers to requests to write and to list binary STL, sent to a sink. The calls are those that C links; what is lent to them holds the patterns of the
 // protocol, and a mesh what the request's bytes say.
+#![tactic(auto)]
+
 ghost use Rattle.std.specs.Prelude.{length};
 ghost use Rattle.stl_replies.specs.Mesh.{mesh_of, MeshBytes};
 ghost use Rattle.stream.specs.Requests.{Within, stl_lent};

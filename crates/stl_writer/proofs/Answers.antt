@@ -27,17 +27,17 @@ unfolding bytes_after
 by_answer p d o c out r out' e w = record { answer = ap wrote_numbers e; bytes = w ∙ ap (λ (x : Wrote). write_by x o c out) e }
 
 module _ (p d : ℕ) (o : Outs) (c : Counts) (room : ℕ) where
-  pub at-17 : consistent p d o c ≡ false → NoStl Inconsistent ≡ write_answer p d o c room
+  pub at_17 : consistent p d o c ≡ false → NoStl Inconsistent ≡ write_answer p d o c room
   unfolding write_answer
-  at-17 e = rw e refl
+  at_17 e = rw e refl
 
-  pub at-18 : consistent p d o c ≡ true → room < stl_size c.triangles → NoStl (NoStlRoom (stl_size c.triangles)) ≡ write_answer p d o c room
+  pub at_18 : consistent p d o c ≡ true → room < stl_size c.triangles → NoStl (NoStlRoom (stl_size c.triangles)) ≡ write_answer p d o c room
   unfolding write_answer
-  at-18 e h = rw (e, lt-ltb room (stl_size c.triangles) h) refl
+  at_18 e h = rw (e, lt-ltb room (stl_size c.triangles) h) refl
 
-  pub at-file : consistent p d o c ≡ true → stl_size c.triangles ≤ room → Stl (stl_size c.triangles) ≡ write_answer p d o c room
+  pub at_file : consistent p d o c ≡ true → stl_size c.triangles ≤ room → Stl (stl_size c.triangles) ≡ write_answer p d o c room
   unfolding write_answer
-  at-file e h = rw (e, le-ltb room (stl_size c.triangles) h) refl
+  at_file e h = rw (e, le-ltb room (stl_size c.triangles) h) refl
 
 -- ---- what the writing asks for
 
@@ -45,22 +45,22 @@ module _ (o : Outs) (c : Counts) (e : consistent 8 8 o c ≡ true) where
   pub few : c.triangles ≤ 2097152
   few = triangle_limit o c e
 
-  pub corners-there : 3 * c.triangles ≤ length o.triangles
-  corners-there = (consistent_means 8 8 o c e).room.triangles
+  pub corners_there : 3 * c.triangles ≤ length o.triangles
+  corners_there = (consistent_means 8 8 o c e).room.triangles
 
   -- every corner of the T triangles is a vertex that the positions have
   pub drawn : Drawn o.positions (take (3 * c.triangles) o.triangles)
   drawn j h =
-      let n : j < 3 * c.triangles = omega (arith, length-take (3 * c.triangles) o.triangles, corners-there) in
+      let n : j < 3 * c.triangles = omega (arith, length-take (3 * c.triangles) o.triangles, corners_there) in
       let b = corner_below 8 8 o c e j n in
       let r = (consistent_means 8 8 o c e).room.positions in
       rw (get_or-take (3 * c.triangles) o.triangles j 0 n) (omega arith)
 
 -- ---- what was written: the head, and the facets of the T triangles
 
-pub file-made : (o : Outs) (c : Counts) (n : ℕ) (out b₁ b₂ : List ℕ) → n ≡ c.triangles → b₁ ≡ put out 0 (stl_head c.triangles)
+pub file_made : (o : Outs) (c : Counts) (n : ℕ) (out b₁ b₂ : List ℕ) → n ≡ c.triangles → b₁ ≡ put out 0 (stl_head c.triangles)
     → b₂ ≡ put b₁ 84 (facets_of o.positions (take (3 * c.triangles) o.triangles) n) → b₂ ≡ put out 0 (file_of o c)
 unfolding file_of stl_bytes
-file-made o c n out b₁ b₂ q e₁ e₂ =
+file_made o c n out b₁ b₂ q e₁ e₂ =
     next out b₁ 0 84 (stl_head c.triangles) _ e₂ e₁ (omega (arith, long_head c.triangles))
     ∙ ap (λ (l : List ℕ). put out 0 (stl_head c.triangles ++ l)) (ap (facets_of o.positions (take (3 * c.triangles) o.triangles)) q ∙ facets_front o.positions o.triangles c.triangles)

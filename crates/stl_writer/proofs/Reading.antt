@@ -22,7 +22,7 @@ use Rattle.facets.proofs.Laws.{stl_long}
 use Rattle.stl_writer.specs.declared.Wrote.{Wrote}
 use Rattle.stl_writer.specs.declared.Wrote.TheVariants.{Stl, NoStl}
 use Rattle.stl_writer.specs.Call.{file_of, write_answer, bytes_after, wrote_numbers}
-use Rattle.stl_writer.proofs.Answers.{at-17, at-18, at-file}
+use Rattle.stl_writer.proofs.Answers.{at_17, at_18, at_file}
 
 -- an answer is told by its numbers
 pub wrote_told : (r q : Wrote) → wrote_numbers r ≡ wrote_numbers q → r ≡ q
@@ -42,17 +42,17 @@ module _ (p d : ℕ) (o : Outs) (c : Counts) (room : ℕ) where
   cause_of = go (consistent p d o c) refl
     where
       room_of : (b : Bool) → ltb room (stl_size c.triangles) ≡ b → consistent p d o c ≡ true → Cause p d o c room (write_answer p d o c room)
-      room_of true h e = let l = ltb-true room (stl_size c.triangles) h in subst (Cause p d o c room) (at-18 p d o c room e l) (short e l)
-      room_of false h e = let l = ltb-false room (stl_size c.triangles) h in subst (Cause p d o c room) (at-file p d o c room e l) (fits e l)
+      room_of true h e = let l = ltb-true room (stl_size c.triangles) h in subst (Cause p d o c room) (at_18 p d o c room e l) (short e l)
+      room_of false h e = let l = ltb-false room (stl_size c.triangles) h in subst (Cause p d o c room) (at_file p d o c room e l) (fits e l)
 
       go : (b : Bool) → consistent p d o c ≡ b → Cause p d o c room (write_answer p d o c room)
       go true e = room_of (ltb room (stl_size c.triangles)) refl e
-      go false e = subst (Cause p d o c room) (at-17 p d o c room e) (unfit e)
+      go false e = subst (Cause p d o c room) (at_17 p d o c room e) (unfit e)
 
   pub answer_of : (r : Wrote) → Cause p d o c room r → r ≡ write_answer p d o c room
-  answer_of _ (unfit e) = at-17 p d o c room e
-  answer_of _ (short e h) = at-18 p d o c room e h
-  answer_of _ (fits e h) = at-file p d o c room e h
+  answer_of _ (unfit e) = at_17 p d o c room e
+  answer_of _ (short e h) = at_18 p d o c room e h
+  answer_of _ (fits e h) = at_file p d o c room e h
 
   pub cause_number : (r : Wrote) → Cause p d o c room r → (q : Refusal) → r ≡ NoStl q → (17 ≤ number_of q) × (number_of q ≤ 18)
   cause_number _ (unfit e) q x = subst (λ (n : ℕ). (17 ≤ n) × (n ≤ 18)) (ap (λ (l : List ℕ). get_or l 0 0) (ap wrote_numbers x)) (omega arith, omega arith)

@@ -1,4 +1,6 @@
 // Writes a mesh as a binary STL file into lent bytes (02 §4). Nothing is demanded of whoever calls it; what it promises, `WritesStl`, stands in specs/Call.
+#![tactic(auto)]
+
 ghost use Rattle.buffers.specs.Outs.{outs};
 ghost use Rattle.stl_writer.specs.Call.{WritesStl};
 

@@ -3,21 +3,23 @@ ghost use Rattle.std.specs.Prelude.{◌≡◌, ◌+◌, ◌*◌, ◌≤◌, ◌<
 ghost use Rattle.stream.specs.Sinks.{SinkReady};
 
 use numbers::words::{put_bytes, put_floats, put_words};
+use std::io::Stdout;
 
+// To standard output, or against the file behind a descriptor.
 #[derive(Clone, Copy)]
 pub enum Mode {
-    Write,
-    Compare,
+    Write(Stdout),
+    Compare(i32),
 }
 
-// Answers are written to a file, or held against what is read from it. The first at bytes of the block wait to be handed on;
-// good says that every block so far was written whole, or was as recorded.
+// Answers are written, or held against what is read. The first at bytes of the block wait to be handed on; good says that every block so far was written whole,
+// or was as recorded, and why is the system's number of the last write that failed.
 #[derive(Clone, Copy)]
 pub struct Sink {
     pub mode: Mode,
-    pub file: i32,
     pub at: usize,
     pub good: bool,
+    pub why: i32,
 }
 
 // Whether the bytes are those that come next in a file.
@@ -33,11 +35,13 @@ fn is_recorded(file: i32, bytes: &[u8]) -> bool {
     check::same(bytes, &there[..n])
 }
 
-fn hand_on(s: Sink, bytes: &[u8]) -> bool {
+// The system's number where a write failed, 0 where the bytes are not as recorded.
+fn hand_on(s: Sink, bytes: &[u8]) -> Result<(), i32> {
     let mode = s.mode;
     match mode {
-        Mode::Write => io::write_all(s.file, bytes),
-        Mode::Compare => is_recorded(s.file, bytes),
+        Mode::Write(to) => files::write(to, bytes),
+        Mode::Compare(file) if is_recorded(file, bytes) => Ok(()),
+        Mode::Compare(_) => Err(0),
     }
 }
 
@@ -48,19 +52,19 @@ pub fn flush(s: Sink, out: &[u8]) -> Sink
 {
     let mode = s.mode;
     let at = s.at;
-    if hand_on(s, &out[..at]) {
+    if let Err(why) = hand_on(s, &out[..at]) {
         return Sink {
             mode,
-            file: s.file,
             at: 0,
-            good: s.good,
+            good: false,
+            why,
         };
     }
     Sink {
         mode,
-        file: s.file,
         at: 0,
-        good: false,
+        good: s.good,
+        why: s.why,
     }
 }
 
@@ -79,9 +83,9 @@ fn advance(s: Sink, out: &[u8], n: usize) -> Sink
     let at = s.at + n;
     let next = Sink {
         mode,
-        file: s.file,
         at,
         good: s.good,
+        why: s.why,
     };
     if out.len() - at < 4 {
         return flush(next, out);

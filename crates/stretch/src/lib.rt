@@ -1,5 +1,7 @@
 // Which atoms, and which residues, a segment reaches. Where serials ascend, as in every file that a program wrote, its atoms are one part of the list.
 // Where they begin anew once, as where two files were joined, its atoms are mostly one part of one of the two runs.
+#![tactic(auto)]
+
 ghost use Rattle.std.specs.Prelude.{◌≡◌, true, ℕ, ◌+◌, ◌≤◌, ◌<◌};
 ghost use Rattle.protein.specs.Layout.{Whole};
 ghost use Rattle.protein.specs.Job.{job_of, segments_of};

@@ -1,4 +1,6 @@
 // Residue tables in lent scratch: for each residue an atom, counted from 1, or 0.
+#![tactic(auto)]
+
 ghost use Rattle.std.specs.Prelude.{◌≡◌, true, ℕ, ◌+◌, ◌-◌, ◌≤◌, ◌<◌, length, get_or, eqb};
 ghost use Rattle.lists.specs.Search.{last};
 ghost use Rattle.protein.specs.Layout.{Whole};

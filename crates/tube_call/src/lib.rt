@@ -1,4 +1,6 @@
 // The tube call of 01. Nothing is demanded of whoever calls it; what it promises, `Tubed`, stands in specs/Part.
+#![tactic(auto)]
+
 ghost use Rattle.tube_call.specs.Part.{Tubed, PartFor};
 
 // A part's first place in its buffer, 0 where it is empty, and how many places it has.

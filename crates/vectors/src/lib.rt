@@ -1,4 +1,6 @@
 // Vectors of three f32 by value, and flat lists of them.
+#![tactic(auto)]
+
 ghost use Rattle.std.specs.Prelude.{◌≡◌, ◌+◌, ◌*◌, ◌≤◌, length};
 ghost use Rattle.vectors.specs.Vec.{vadd, vsub, vscale, vdot, vcross, vlength, direction_by, direction_of, normalised_by, normalised, floats, vec_at};
 ghost use Rattle.lists.specs.Put.{put};

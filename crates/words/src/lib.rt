@@ -1,8 +1,9 @@
 // The words that a person reads: of each refusal two lines, what is wrong, with its line, chain, segment or atom, and what to do about it, in one place for all
 // programs. They go to standard error, behind the line with the refusal's number and what it carries.
-use files::say;
+#![tactic(auto)]
+
+use files::{STDERR_FILENO, say};
 use job::Refusal;
-use libc::STDERR_FILENO;
 
 // What is at fault by its number, and the words behind it.
 fn say_of(what: &[u8], n: usize, words: &[u8]) {

@@ -1,4 +1,3 @@
-use borrow.Author.Rules.{rules}
 use Rattle.boxes.specs.Bounds.{grown_by}
 use Rattle.boxes.proofs.grown.Goals as goal
 

@@ -1,7 +1,6 @@
 use Rattle.lists.specs.Put.{upto}
 use Rattle.boxes.specs.Box.{along, foremost}
 use Rattle.boxes.specs.Bounds.{corner_by}
-use borrow.Author.Rules.{rules}
 use Rattle.boxes.proofs.low_corner.Goals as goal
 
 pub returns : goal.returns

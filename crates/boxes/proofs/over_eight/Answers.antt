@@ -1,11 +1,8 @@
-use borrow.Author.Rules.{rules}
 use mathlib.Core.Path.{◌≡◌, refl}
-use Prim.Native.Nat.{ℕ, ◌≤◌, ◌-◌}
+use Prim.Native.Nat.{◌-◌}
 use native.Mathlib.Omega.{arith}
-use lib.ListN.{get_or}
 use Rattle.lists.specs.Put.{upto}
-use Rattle.vectors.specs.Vec.{floats, vpast, eight}
-use Rattle.boxes.specs.Bounds.{grown_by}
+use Rattle.vectors.specs.Vec.{eight}
 use Rattle.boxes.proofs.Laws.{grown_none, grown_turn}
 use Rattle.boxes.proofs.over_eight.Goals as goal
 

@@ -1,12 +1,9 @@
-use borrow.Author.Rules.{rules}
-use mathlib.Core.Path.{◌≡◌, refl}
+use mathlib.Core.Path.{◌≡◌}
 use Prim.Native.Nat.{ℕ, ◌≤◌, ◌-◌}
-use native.Mathlib.Omega.{arith}
 use lib.ListN.{get_or}
 use Rattle.lists.specs.Put.{upto}
-use Rattle.vectors.specs.Vec.{floats, vpast, eight}
+use Rattle.vectors.specs.Vec.{floats, vpast}
 use Rattle.boxes.specs.Bounds.{grown_by}
-use Rattle.boxes.proofs.Laws.{grown_none, grown_turn}
 use Rattle.boxes.proofs.over_eight.Given as goal
 
 abbrev pub invariant-loop-k : goal.invariant-loop-k

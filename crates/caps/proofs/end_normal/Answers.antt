@@ -1,5 +1,4 @@
 use Rattle.caps.specs.Caps.{chord, end_normal_by}
-use borrow.Author.Rules.{rules}
 use Rattle.caps.proofs.end_normal.Goals as goal
 
 pub returns-in-Along : goal.returns-in-Along

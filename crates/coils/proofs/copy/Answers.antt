@@ -1,10 +1,7 @@
-use Prim.Native.Nat.{◌≤◌, ◌-◌, ◌+◌}
+use Prim.Native.Nat.{◌-◌}
 use mathlib.Core.Path.{◌≡◌}
-use lib.ListN.{get_or}
 use native.Mathlib.Omega.{arith}
-use borrow.Author.Rules.{rules}
 use Rattle.scratch.proofs.Laws.{copy_turn, fill_empty}
-use Rattle.scratch.specs.Scratch.{Filled}
 use Rattle.coils.proofs.copy.Goals as goal
 
 pub loop-i-init : goal.loop-i-init

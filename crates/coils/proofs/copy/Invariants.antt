@@ -1,9 +1,5 @@
 use Prim.Native.Nat.{◌≤◌, ◌-◌, ◌+◌}
-use mathlib.Core.Path.{◌≡◌}
 use lib.ListN.{get_or}
-use native.Mathlib.Omega.{arith}
-use borrow.Author.Rules.{rules}
-use Rattle.scratch.proofs.Laws.{copy_turn, fill_empty}
 use Rattle.scratch.specs.Scratch.{Filled}
 use Rattle.coils.proofs.copy.Given as goal
 

@@ -2,7 +2,6 @@ use mathlib.Core.Path.{refl}
 use native.Mathlib.Omega.{arith}
 use Rattle.coils.proofs.Laws.{lead_room, join_room, extended_is, run_first, run_last, ext_all}
 use Rattle.coils.specs.Coils.{joins_in}
-use borrow.Author.Rules.{rules}
 use Rattle.coils.proofs.extend.Goals as goal
 
 pub put_if-a-requires : goal.put_if-a-requires

@@ -1,5 +1,4 @@
 use Rattle.coils.proofs.Laws.{no_number, no_cover, no_alpha, by_chain}
-use borrow.Author.Rules.{rules}
 use Rattle.coils.proofs.is_joined.Goals as goal
 
 pub returns-then-n-r : goal.returns-then-n-r

@@ -1,7 +1,6 @@
 use mathlib.Core.Path.{◌∙◌}
 use Rattle.coils.proofs.Laws.{led_none, led_by}
 use Rattle.coils.specs.Coils.{joins_in}
-use borrow.Author.Rules.{rules}
 use Rattle.coils.proofs.is_led.Goals as goal
 
 pub returns-then-r-eq0 : goal.returns-then-r-eq0

@@ -1,7 +1,6 @@
 use native.Mathlib.Omega.{arith}
 use Rattle.coils.proofs.Laws.{loose_none, loose_covered, loose_shown}
 use Rattle.protein.specs.Job.{job_of}
-use borrow.Author.Rules.{rules}
 use Rattle.coils.proofs.is_loose.Goals as goal
 
 pub returns-then-t-n-eq0 : goal.returns-then-t-n-eq0

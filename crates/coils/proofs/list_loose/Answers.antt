@@ -3,7 +3,6 @@ use native.Mathlib.Omega.{arith}
 use Rattle.protein.specs.Job.{job_of}
 use Rattle.coils.specs.Coils.{covered_in}
 use Rattle.coils.proofs.Laws.{tables_clear, tables_again, covered_clear, loose_marked, loose_count, loose_coiled, loose_kept}
-use borrow.Author.Rules.{rules}
 use Rattle.coils.proofs.list_loose.Goals as goal
 
 pub clear-requires : goal.clear-requires

@@ -1,9 +1,7 @@
-use Prim.Native.Nat.{ℕ, ◌≤◌, ◌-◌, ◌*◌}
+use Prim.Native.Nat.{ℕ, ◌-◌}
 use mathlib.Core.Bool.{Bool}
 use mathlib.Core.Path.{◌≡◌, ◌∙◌, ap}
 use native.Mathlib.Omega.{arith}
-use borrow.Author.Rules.{rules}
-use Rattle.scratch.specs.Scratch.{bit, Filled}
 use Rattle.scratch.proofs.Laws.{fill_empty}
 use Rattle.protein.specs.Job.{job_of}
 use Rattle.tubes.specs.Tubes.{loose}

@@ -1,14 +1,8 @@
-use Prim.Native.Nat.{ℕ, ◌≤◌, ◌-◌, ◌*◌}
-use mathlib.Core.Bool.{Bool}
-use mathlib.Core.Path.{◌≡◌, ◌∙◌, ap}
-use native.Mathlib.Omega.{arith}
-use borrow.Author.Rules.{rules}
+use Prim.Native.Nat.{◌≤◌, ◌-◌, ◌*◌}
 use Rattle.scratch.specs.Scratch.{bit, Filled}
-use Rattle.scratch.proofs.Laws.{fill_empty}
 use Rattle.protein.specs.Job.{job_of}
 use Rattle.tubes.specs.Tubes.{loose}
 use Rattle.coils.specs.Coils.{covered_in}
-use Rattle.coils.proofs.Laws.{tables_kept, tables_again, covered_kept, loose_turn}
 use Rattle.coils.proofs.mark_loose.Given as goal
 
 abbrev pub invariant-loop-r : goal.invariant-loop-r

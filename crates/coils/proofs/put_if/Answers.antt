@@ -2,7 +2,6 @@ use mathlib.Core.Path.{refl, ap}
 use native.Mathlib.Omega.{arith}
 use Rattle.scratch.proofs.Laws.{fill_one, fill_empty}
 use Rattle.scratch.specs.Scratch.{bit}
-use borrow.Author.Rules.{rules}
 use Rattle.coils.proofs.put_if.Goals as goal
 
 pub bounds-t-at : goal.bounds-t-at

@@ -4,7 +4,6 @@ use native.Mathlib.Omega.{arith}
 use Rattle.protein.specs.Job.{job_of}
 use Rattle.coils.specs.Coils.{covered_in}
 use Rattle.coils.proofs.Laws.{loose_few, whole_is, pieces_are, whole_below}
-use borrow.Author.Rules.{rules}
 use Rattle.coils.proofs.run_end.Goals as goal
 
 pub overflow_add-end : goal.overflow_add-end

@@ -1,5 +1,4 @@
 use mathlib.Core.Path.{sym}
-use borrow.Author.Rules.{rules}
 use Rattle.edges.proofs.Theorems.{no_tube, ribbon_counts}
 use Rattle.edges.proofs.triangle_count.Goals as goal
 

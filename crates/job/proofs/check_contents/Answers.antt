@@ -1,6 +1,5 @@
 use Rattle.job.specs.Check.{contents}
 use Rattle.job.proofs.Laws.{or_first_pos, or_first_zero}
-use borrow.Author.Rules.{rules}
 use Rattle.job.proofs.check_contents.Goals as goal
 
 pub returns-then-v-gt0 : goal.returns-then-v-gt0

@@ -1,7 +1,6 @@
 use Rattle.job.proofs.Laws.{sizes_whole, check_contents_of}
 use mathlib.Core.Path.{sym, ◌∙◌}
 use Rattle.job.specs.Check.{check}
-use borrow.Author.Rules.{rules}
 use Rattle.job.proofs.check_job.Goals as goal
 
 pub records-requires : goal.records-requires

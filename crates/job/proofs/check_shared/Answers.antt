@@ -1,6 +1,5 @@
 use mathlib.Core.Path.{sym, ◌∙◌}
 use Rattle.job.proofs.Laws.{sizes_whole, shared_refused, shared_unshared, shared_contents}
-use borrow.Author.Rules.{rules}
 use Rattle.job.proofs.check_shared.Goals as goal
 
 pub returns-then-is_unshared : goal.returns-then-is_unshared

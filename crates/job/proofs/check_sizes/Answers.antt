@@ -1,4 +1,3 @@
-use borrow.Author.Rules.{rules}
 use borrow.Author.Tests.{lt-ltb, le-ltb, eq-eqb, ne_eqb}
 use Rattle.job.specs.Check.{sizes}
 use Rattle.job.proofs.check_sizes.Goals as goal

@@ -1,11 +1,7 @@
 use Prim.Native.Nat.{ℕ, ◌≤◌, ◌<◌, ◌-◌}
 use mathlib.Core.Bool.{false}
-use mathlib.Core.Path.{◌≡◌, sym, ◌∙◌}
-use native.Mathlib.Omega.{arith}
-use borrow.Author.Rules.{rules}
-use borrow.Author.Count.{below_none, below_more}
+use mathlib.Core.Path.{◌≡◌}
 use Rattle.job.specs.Check.{bad_coordinate}
-use Rattle.lists.proofs.Searches.{first_none, first_at}
 use Rattle.job.proofs.find_coordinate.Given as goal
 
 abbrev pub invariant-loop-i : goal.invariant-loop-i

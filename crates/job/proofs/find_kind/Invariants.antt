@@ -1,13 +1,7 @@
 use Prim.Native.Nat.{ℕ, ◌≤◌, ◌<◌, ◌-◌}
 use mathlib.Core.Bool.{false}
-use mathlib.Core.Path.{◌≡◌, sym, ap, ◌∙◌}
-use lib.Dec.{ltb}
-use native.Mathlib.Omega.{arith}
-use borrow.Author.Rules.{rules}
-use borrow.Author.Count.{below_none, below_more}
-use borrow.Author.Tests.{lt-ltb, le-ltb}
+use mathlib.Core.Path.{◌≡◌}
 use Rattle.job.specs.Check.{bad_kind}
-use Rattle.lists.proofs.Searches.{first_none, first_at}
 use Rattle.job.proofs.find_kind.Given as goal
 
 abbrev pub invariant-loop-i : goal.invariant-loop-i

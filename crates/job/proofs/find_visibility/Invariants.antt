@@ -1,14 +1,8 @@
 use Prim.Native.Nat.{ℕ, ◌≤◌, ◌<◌, ◌-◌, ◌+◌}
 use mathlib.Core.Bool.{false}
-use mathlib.Core.Path.{◌≡◌, sym}
+use mathlib.Core.Path.{◌≡◌}
 use lib.ListN.{get_or}
 use lib.Dec.{ltb}
-use native.Mathlib.Omega.{arith}
-use borrow.Author.Rules.{rules}
-use borrow.Author.Count.{below_none, below_more}
-use borrow.Author.Tests.{lt-ltb, le-ltb}
-use Rattle.job.specs.Check.{bad_visibility}
-use Rattle.lists.proofs.Searches.{first_none, first_at}
 use Rattle.job.proofs.find_visibility.Given as goal
 
 abbrev pub invariant-loop-i : goal.invariant-loop-i

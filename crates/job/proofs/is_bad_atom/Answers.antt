@@ -1,4 +1,3 @@
-use borrow.Author.Rules.{rules}
 use borrow.Author.Tests.{lt-ltb, le-ltb}
 use Rattle.job.specs.Check.{bad_atom}
 use Rattle.job.proofs.is_bad_atom.Goals as goal

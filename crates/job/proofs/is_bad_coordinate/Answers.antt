@@ -6,7 +6,6 @@ use Rattle.numbers.specs.Bytes.{u64_at}
 use Rattle.job.specs.Coordinate.{within}
 use Rattle.job.specs.Check.{bad_coordinate}
 use Rattle.lists.proofs.Bools.{or_last}
-use borrow.Author.Rules.{rules}
 use Rattle.job.proofs.is_bad_coordinate.Goals as goal
 
 pub returns-then-is_outside : goal.returns-then-is_outside

@@ -1,7 +1,6 @@
 use native.Mathlib.Omega.{arith}
 use Rattle.numbers.specs.Bytes.{u64_at}
 use Rattle.job.proofs.Coordinate.{below_limit, above_limit, at_limit}
-use borrow.Author.Rules.{rules}
 use Rattle.job.proofs.is_outside.Goals as goal
 
 pub returns-then-high-lt1087373312 : goal.returns-then-high-lt1087373312

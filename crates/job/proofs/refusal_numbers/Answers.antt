@@ -1,4 +1,3 @@
-use borrow.Author.Rules.{rules}
 use Rattle.job.proofs.refusal_numbers.Goals as goal
 
 pub returns-in-BadLength : goal.returns-in-BadLength

@@ -1,12 +1,11 @@
-use Prim.Native.Nat.{ℕ, ◌≤◌, ◌-◌}
+use Prim.Native.Nat.{ℕ, ◌-◌}
 use mathlib.Core.Path.{◌≡◌, refl}
 use lib.ListN.{length, get_or}
 use native.Mathlib.Omega.{arith}
-use borrow.Author.Rules.{rules}
 use Rattle.lists.specs.Put.{put, upto}
 use Rattle.lists.proofs.Puts.{kept, turn}
 use Rattle.protein.specs.Places.{place_of}
-use Rattle.vectors.specs.Vec.{floats, floats_of}
+use Rattle.vectors.specs.Vec.{floats}
 use Rattle.mesh.specs.Mesh.{spot_of, spots}
 use Rattle.mesh.proofs.load.Goals as goal
 

@@ -1,13 +1,10 @@
 use Prim.Native.Nat.{ℕ, ◌≤◌, ◌-◌}
-use mathlib.Core.Path.{◌≡◌, refl}
-use lib.ListN.{length, get_or}
-use native.Mathlib.Omega.{arith}
-use borrow.Author.Rules.{rules}
-use Rattle.lists.specs.Put.{put, upto}
-use Rattle.lists.proofs.Puts.{kept, turn}
+use mathlib.Core.Path.{◌≡◌}
+use lib.ListN.{get_or}
+use Rattle.lists.specs.Put.{put}
 use Rattle.protein.specs.Places.{place_of}
-use Rattle.vectors.specs.Vec.{floats, floats_of}
-use Rattle.mesh.specs.Mesh.{spot_of, spots}
+use Rattle.vectors.specs.Vec.{floats_of}
+use Rattle.mesh.specs.Mesh.{spot_of}
 use Rattle.mesh.proofs.load.Given as goal
 
 abbrev pub invariant-loop-i : goal.invariant-loop-i

@@ -1,5 +1,4 @@
 use Rattle.mesh.proofs.Laws.{course_is}
-use borrow.Author.Rules.{rules}
 use Rattle.mesh.proofs.load_course.Goals as goal
 
 pub returns : goal.returns

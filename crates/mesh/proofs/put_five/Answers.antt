@@ -1,6 +1,5 @@
 use native.Mathlib.Omega.{arith}
 use lib.ListN.{length-set}
-use borrow.Author.Rules.{rules}
 use Rattle.lists.proofs.Puts.{put5}
 use Rattle.mesh.proofs.put_five.Goals as goal
 

@@ -1,7 +1,6 @@
 use mathlib.Core.Path.{◌∙◌}
 use Rattle.mesh.specs.Mesh.{spot_of}
 use Rattle.mesh.proofs.Laws.{spot_some}
-use borrow.Author.Rules.{rules}
 use Rattle.mesh.proofs.spot.Goals as goal
 
 pub returns-then-a-eq0 : goal.returns-then-a-eq0

@@ -1,7 +1,6 @@
 use native.Mathlib.Omega.{arith}
 use Rattle.protein.specs.Places.{place_of}
 use Rattle.mesh.proofs.Laws.{written_is}
-use borrow.Author.Rules.{rules}
 use Rattle.mesh.proofs.write_tube.Goals as goal
 
 pub overflow_mul-k : goal.overflow_mul-k

@@ -1,5 +1,4 @@
 use Rattle.lists.proofs.Puts.{put1}
-use borrow.Author.Rules.{rules}
 use Rattle.numbers.proofs.put_byte.Goals as goal
 
 pub returns : goal.returns

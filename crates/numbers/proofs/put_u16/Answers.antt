@@ -1,7 +1,6 @@
 use native.Mathlib.Omega.{arith}
 use lib.ListN.{length-set}
 use Rattle.numbers.specs.Bytes.{u16}
-use borrow.Author.Rules.{rules}
 use Rattle.lists.proofs.Puts.{put2}
 use Rattle.numbers.proofs.put_u16.Goals as goal
 

@@ -1,7 +1,6 @@
 use mathlib.Core.Path.{refl}
 use Rattle.numbers.specs.Bytes.{u32}
 use Rattle.numbers.proofs.Laws.{seq, len16}
-use borrow.Author.Rules.{rules}
 use Rattle.numbers.proofs.put_u32.Goals as goal
 
 pub returns : goal.returns

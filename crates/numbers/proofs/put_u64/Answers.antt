@@ -1,7 +1,6 @@
 use mathlib.Core.Path.{refl}
 use Rattle.numbers.specs.Bytes.{u64}
 use Rattle.numbers.proofs.Laws.{seq, len32}
-use borrow.Author.Rules.{rules}
 use Rattle.numbers.proofs.put_u64.Goals as goal
 
 pub returns : goal.returns

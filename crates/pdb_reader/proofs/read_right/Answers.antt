@@ -2,12 +2,12 @@ use native.Mathlib.Omega.{arith}
 use mathlib.Core.Path.{refl, sym, ◌∙◌}
 use Rattle.lists.proofs.Puts.{kept}
 use Rattle.pdb_job.proofs.Counts.{not_more, within_limits, size_is}
-use Rattle.pdb_reader.proofs.Answers.{limited, refuse-limits, refuse-room, accept}
+use Rattle.pdb_reader.proofs.Answers.{limited, refuse_limits, refuse_room, accept}
 use borrow.Author.Rules.{rules}
 use Rattle.pdb_reader.proofs.read_right.Goals as goal
 
 pub returns-then-is_past_limits : goal.returns-then-is_past_limits
-returns-then-is_past_limits c = (refuse-limits _ c.args.out.now _ refl (sym (c.is_past_limits.ensures _ c.requires.1) ∙ c.if-is_past_limits.true), refl)
+returns-then-is_past_limits c = (refuse_limits _ c.args.out.now _ refl (sym (c.is_past_limits.ensures _ c.requires.1) ∙ c.if-is_past_limits.true), refl)
 
 pub overflow_add-size : goal.overflow_add-size
 overflow_add-size c =
@@ -54,7 +54,7 @@ returns-then-out-size c =
     let q = c.requires.1 in
     let p = sym (c.is_past_limits.ensures _ q) ∙ c.if-is_past_limits.false in
     let m = not_more _ _ _ q (limited _ p) in
-    (refuse-room _ c.args.out.now p _ (size_is _ _ _ q m) c.if-out-size.true, refl)
+    (refuse_room _ c.args.out.now p _ (size_is _ _ _ q m) c.if-out-size.true, refl)
 
 pub write_job-requires : goal.write_job-requires
 write_job-requires c =

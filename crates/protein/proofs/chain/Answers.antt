@@ -1,5 +1,4 @@
 use native.Mathlib.Omega.{arith}
-use borrow.Author.Rules.{rules}
 use Rattle.protein.proofs.chain.Goals as goal
 
 pub returns : goal.returns

@@ -1,5 +1,4 @@
 use Rattle.protein.proofs.Laws.{shown_code_lem}
-use borrow.Author.Rules.{rules}
 use Rattle.protein.proofs.is_shown.Goals as goal
 
 pub returns : goal.returns

@@ -1,5 +1,4 @@
 use Rattle.protein.specs.Places.{coordinate_at, place_of}
-use borrow.Author.Rules.{rules}
 use Rattle.protein.proofs.place.Goals as goal
 
 pub returns : goal.returns

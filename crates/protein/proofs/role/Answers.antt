@@ -1,4 +1,3 @@
-use borrow.Author.Rules.{rules}
 use Rattle.protein.proofs.role.Goals as goal
 
 pub returns : goal.returns

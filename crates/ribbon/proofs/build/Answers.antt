@@ -4,7 +4,6 @@ use Rattle.job.proofs.Laws.{check_whole}
 use Rattle.job.proofs.Accepted.{accepted}
 use Rattle.promises.proofs.Kept.{builds_refused, builds_passed}
 use Rattle.ribbon.proofs.Laws.{chained, records_few_as, built_as}
-use borrow.Author.Rules.{rules}
 use Rattle.ribbon.proofs.build.Goals as goal
 
 pub records-requires : goal.records-requires

@@ -4,7 +4,6 @@ use Rattle.job.proofs.Laws.{check_whole}
 use Rattle.job.proofs.Accepted.{accepted}
 use Rattle.promises.proofs.Kept.{plans_refused, plans_passed}
 use Rattle.ribbon.proofs.Laws.{chained, records_few_as, planned_as}
-use borrow.Author.Rules.{rules}
 use Rattle.ribbon.proofs.plan.Goals as goal
 
 pub records-requires : goal.records-requires

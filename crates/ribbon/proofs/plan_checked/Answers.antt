@@ -9,15 +9,14 @@ use Rattle.promises.specs.Calls.{tubes_with}
 use Rattle.room.specs.Room.{short_scratch}
 use Rattle.ribbon.proofs.Laws.{kept_at_nine, swept, start_small, start_counted}
 use Rattle.room.proofs.Laws.{long_words, long_floats, zeroed_words}
-use Rattle.ribbon.proofs.Answers.{many, few, plan_is, plan-short, plan-many, plan-fine}
-use borrow.Author.Rules.{rules}
+use Rattle.ribbon.proofs.Answers.{many, few, plan_is, plan_short, plan_many, plan_fine}
 use Rattle.ribbon.proofs.plan_checked.Goals as goal
 
 pub returns-then-is_short : goal.returns-then-is_short
 returns-then-is_short c =
     let args = c.args in
     let q : short_scratch args.h (length args.words.now) (length args.floats.now) ≡ true = (sym c.is_short.ensures ∙ c.if-is_short.true) in
-    (plan-short args.h (tubes_with args.b.now args.h args.q.now) args.k _ _ q, kept_at_nine args.h _ _ q)
+    (plan_short args.h (tubes_with args.b.now args.h args.q.now) args.k _ _ q, kept_at_nine args.h _ _ q)
 
 pub count_all-sum-requires : goal.count_all-sum-requires
 count_all-sum-requires c =
@@ -35,7 +34,7 @@ pub returns-then-sum-gt1048576 : goal.returns-then-sum-gt1048576
 returns-then-sum-gt1048576 c =
     let args = c.args in
     let q : short_scratch args.h (length args.words.now) (length args.floats.now) ≡ false = (sym c.is_short.ensures ∙ c.if-is_short.false) in
-    (plan-many args.h (tubes_with args.b.now args.h args.q.now) args.k _ _ q (many args.k (tubes_with args.b.now args.h args.q.now) _ (start_counted args.b.now args.h args.q.now args.k _ c.before_all.ensures _ c.count_all-sum.ensures.0) c.if-sum-gt1048576.true), swept args.h _ _ _ _ q (c.clear_scratch.ensures.0 ∙ zeroed_words (8 * args.h.residues) _ _ c.count_all-sum.ensures.1) c.clear_scratch.ensures.1)
+    (plan_many args.h (tubes_with args.b.now args.h args.q.now) args.k _ _ q (many args.k (tubes_with args.b.now args.h args.q.now) _ (start_counted args.b.now args.h args.q.now args.k _ c.before_all.ensures _ c.count_all-sum.ensures.0) c.if-sum-gt1048576.true), swept args.h _ _ _ _ q (c.clear_scratch.ensures.0 ∙ zeroed_words (8 * args.h.residues) _ _ c.count_all-sum.ensures.1) c.clear_scratch.ensures.1)
 
 pub returns : goal.returns
 returns c =
@@ -43,4 +42,4 @@ returns c =
     let args = c.args in
     let q : short_scratch args.h (length args.words.now) (length args.floats.now) ≡ false = (sym c.is_short.ensures ∙ c.if-is_short.false) in
     let n = (start_counted args.b.now args.h args.q.now args.k _ c.before_all.ensures _ count-all.ensures.0) in
-    (ap (λ (x : Counts). Plan x count-all.result.words) c.counts_of.ensures ∙ plan_is args.k (tubes_with args.b.now args.h args.q.now) _ n ∙ plan-fine args.h (tubes_with args.b.now args.h args.q.now) args.k _ _ q (few args.k (tubes_with args.b.now args.h args.q.now) _ n c.if-sum-gt1048576.false), swept args.h _ _ _ _ q (c.clear_scratch.ensures.0 ∙ zeroed_words (8 * args.h.residues) _ _ count-all.ensures.1) c.clear_scratch.ensures.1)
+    (ap (λ (x : Counts). Plan x count-all.result.words) c.counts_of.ensures ∙ plan_is args.k (tubes_with args.b.now args.h args.q.now) _ n ∙ plan_fine args.h (tubes_with args.b.now args.h args.q.now) args.k _ _ q (few args.k (tubes_with args.b.now args.h args.q.now) _ n c.if-sum-gt1048576.false), swept args.h _ _ _ _ q (c.clear_scratch.ensures.0 ∙ zeroed_words (8 * args.h.residues) _ _ count-all.ensures.1) c.clear_scratch.ensures.1)

@@ -3,7 +3,6 @@ use native.Mathlib.Omega.{arith}
 use Prim.Native.Nat.{◌+◌}
 use Rattle.vectors.proofs.Flat.{length_eight}
 use Rattle.rings.proofs.Laws.{wrote_next, less, room}
-use borrow.Author.Rules.{rules}
 use Rattle.rings.proofs.put_capped.Goals as goal
 
 pub put_ring-ring-requires : goal.put_ring-ring-requires

@@ -1,9 +1,6 @@
-use borrow.Author.Rules.{rules}
 use mathlib.Core.Path.{◌≡◌, refl}
-use Prim.Native.Nat.{ℕ, ◌≤◌, ◌-◌}
+use Prim.Native.Nat.{◌-◌}
 use native.Mathlib.Omega.{arith}
-use lib.ListN.{get_or}
-use Rattle.vectors.specs.Vec.{floats, vpast}
 use Rattle.lists.specs.Put.{put, upto}
 use Rattle.lists.proofs.Puts.{turn, kept}
 use Rattle.vectors.specs.Vec.{eight}

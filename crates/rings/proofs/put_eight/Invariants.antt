@@ -1,12 +1,8 @@
-use borrow.Author.Rules.{rules}
-use mathlib.Core.Path.{◌≡◌, refl}
+use mathlib.Core.Path.{◌≡◌}
 use Prim.Native.Nat.{ℕ, ◌≤◌, ◌-◌}
-use native.Mathlib.Omega.{arith}
 use lib.ListN.{get_or}
 use Rattle.vectors.specs.Vec.{floats, vpast}
 use Rattle.lists.specs.Put.{put, upto}
-use Rattle.lists.proofs.Puts.{turn, kept}
-use Rattle.vectors.specs.Vec.{eight}
 use Rattle.rings.proofs.put_eight.Given as goal
 
 abbrev pub invariant-loop-k : goal.invariant-loop-k

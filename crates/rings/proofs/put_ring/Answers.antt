@@ -1,4 +1,3 @@
-use borrow.Author.Rules.{rules}
 use Rattle.rings.proofs.put_ring.Goals as goal
 
 pub returns : goal.returns

@@ -1,14 +1,10 @@
-use borrow.Author.Rules.{rules}
 use mathlib.Core.Path.{◌≡◌, refl, ◌∙◌}
-use mathlib.Core.List.{[], ◌∷◌}
-use Prim.Native.Nat.{ℕ, ◌+◌, ◌-◌, ◌≤◌}
+use Prim.Native.Nat.{◌+◌, ◌-◌}
 use native.Mathlib.Omega.{arith}
-use lib.ListN.{get_or}
 use Rattle.lists.specs.Put.{upto}
 use Rattle.lists.proofs.Puts.{kept, put1}
-use Rattle.vectors.specs.Vec.{floats, eight}
-use Rattle.shape.specs.Ring.{point_on, normal_on, spoke_past, ring_over}
-use Rattle.rings.specs.Post.{Wrote}
+use Rattle.vectors.specs.Vec.{eight}
+use Rattle.shape.specs.Ring.{normal_on, ring_over}
 use Rattle.rings.proofs.Laws.{wrote_none, wrote_turn}
 use Rattle.rings.proofs.put_sides.Goals as goal
 

@@ -1,15 +1,10 @@
-use borrow.Author.Rules.{rules}
-use mathlib.Core.Path.{◌≡◌, refl, ◌∙◌}
 use mathlib.Core.List.{[], ◌∷◌}
-use Prim.Native.Nat.{ℕ, ◌+◌, ◌-◌, ◌≤◌}
-use native.Mathlib.Omega.{arith}
+use Prim.Native.Nat.{ℕ, ◌-◌, ◌≤◌}
 use lib.ListN.{get_or}
 use Rattle.lists.specs.Put.{upto}
-use Rattle.lists.proofs.Puts.{kept, put1}
-use Rattle.vectors.specs.Vec.{floats, eight}
-use Rattle.shape.specs.Ring.{point_on, normal_on, spoke_past, ring_over}
+use Rattle.vectors.specs.Vec.{floats}
+use Rattle.shape.specs.Ring.{point_on, normal_on, spoke_past}
 use Rattle.rings.specs.Post.{Wrote}
-use Rattle.rings.proofs.Laws.{wrote_none, wrote_turn}
 use Rattle.rings.proofs.put_sides.Given as goal
 
 abbrev pub invariant-loop-k : goal.invariant-loop-k

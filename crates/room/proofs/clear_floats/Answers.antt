@@ -1,9 +1,7 @@
-use Prim.Native.Nat.{◌≤◌, ◌-◌}
+use Prim.Native.Nat.{◌-◌}
 use mathlib.Core.Path.{◌≡◌, refl}
 use lib.Ieee.{binary32, of_bits}
 use native.Mathlib.Omega.{arith}
-use borrow.Author.Rules.{rules}
-use Rattle.room.specs.Room.{zeroed}
 use Rattle.room.proofs.Laws.{zeroed_turn, zeroed_length}
 use Rattle.room.proofs.clear_floats.Goals as goal
 

@@ -1,7 +1,6 @@
 use Prim.Native.Nat.{◌*◌}
 use Rattle.scratch.proofs.Laws.{kept_refl}
 use Rattle.room.proofs.Laws.{zeroed_is}
-use borrow.Author.Rules.{rules}
 use Rattle.room.proofs.clear_scratch.Goals as goal
 
 pub returns : goal.returns

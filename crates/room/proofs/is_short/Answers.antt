@@ -1,6 +1,5 @@
 use mathlib.Core.Path.{refl}
 use Rattle.room.proofs.Laws.{few_words, by_floats}
-use borrow.Author.Rules.{rules}
 use Rattle.room.proofs.is_short.Goals as goal
 
 pub returns-then-words-n : goal.returns-then-words-n

@@ -1,8 +1,6 @@
-use Prim.Native.Nat.{◌≤◌, ◌-◌}
+use Prim.Native.Nat.{◌-◌}
 use mathlib.Core.Path.{◌≡◌}
 use native.Mathlib.Omega.{arith}
-use borrow.Author.Rules.{rules}
-use Rattle.scratch.specs.Scratch.{Filled}
 use Rattle.scratch.proofs.Laws.{fill_extend, fill_empty}
 use Rattle.scratch.proofs.clear.Goals as goal
 

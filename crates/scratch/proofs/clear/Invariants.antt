@@ -1,9 +1,5 @@
 use Prim.Native.Nat.{◌≤◌, ◌-◌}
-use mathlib.Core.Path.{◌≡◌}
-use native.Mathlib.Omega.{arith}
-use borrow.Author.Rules.{rules}
 use Rattle.scratch.specs.Scratch.{Filled}
-use Rattle.scratch.proofs.Laws.{fill_extend, fill_empty}
 use Rattle.scratch.proofs.clear.Given as goal
 
 abbrev pub invariant-loop-i : goal.invariant-loop-i

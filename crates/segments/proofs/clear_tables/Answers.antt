@@ -1,7 +1,5 @@
 use native.Mathlib.Omega.{arith}
-use borrow.Author.Tests.{not-true}
 use Rattle.scratch.proofs.Laws.{both_one, both_two}
-use borrow.Author.Rules.{rules}
 use Rattle.segments.proofs.clear_tables.Goals as goal
 
 pub returns-then-not-full : goal.returns-then-not-full

@@ -1,14 +1,9 @@
-use Prim.Native.Nat.{◌≤◌, ◌-◌, ◌+◌}
-use mathlib.Core.Bool.{cond}
+use Prim.Native.Nat.{◌-◌}
 use mathlib.Core.Path.{◌≡◌}
 use Rattle.segments.proofs.cover.Goals.{then-t-from-ne0, else-t-from-ne0}
-use lib.ListN.{get_or}
 use native.Mathlib.Omega.{arith}
-use borrow.Author.Rules.{rules}
 use Rattle.segments.proofs.Laws.{cover_yes, cover_no}
 use Rattle.scratch.proofs.Laws.{fill_empty}
-use Rattle.scratch.specs.Scratch.{Filled}
-use Rattle.tubes.specs.Tubes.{given}
 use Rattle.segments.proofs.cover.Goals as goal
 
 pub loop-i-init : goal.loop-i-init

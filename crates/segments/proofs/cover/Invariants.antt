@@ -1,12 +1,6 @@
 use Prim.Native.Nat.{◌≤◌, ◌-◌, ◌+◌}
 use mathlib.Core.Bool.{cond}
-use mathlib.Core.Path.{◌≡◌}
-use mathlib.Core.Logic.{⊎_elim}
 use lib.ListN.{get_or}
-use native.Mathlib.Omega.{arith}
-use borrow.Author.Rules.{rules}
-use Rattle.segments.proofs.Laws.{cover_yes, cover_no}
-use Rattle.scratch.proofs.Laws.{fill_empty}
 use Rattle.scratch.specs.Scratch.{Filled}
 use Rattle.tubes.specs.Tubes.{given}
 use Rattle.segments.proofs.cover.Given as goal

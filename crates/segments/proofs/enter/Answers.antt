@@ -1,9 +1,7 @@
 use native.Mathlib.Omega.{arith}
 use mathlib.Core.Path.{refl, ◌∙◌}
-use borrow.Author.Tests.{not-true, not-false}
 use Rattle.segments.proofs.Laws.{tubes_few, tubes_hidden, first_below, first_chained, first_shown, entered_none, entered_some}
 use Prim.Native.Nat.{◌+◌, ◌*◌}
-use borrow.Author.Rules.{rules}
 use Rattle.segments.proofs.enter.Goals as goal
 
 pub returns-then-m-lt2 : goal.returns-then-m-lt2

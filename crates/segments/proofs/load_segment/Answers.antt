@@ -2,7 +2,6 @@ use native.Mathlib.Omega.{arith}
 use Rattle.stretch.proofs.Laws.{met_span}
 use Rattle.protein.specs.Job.{job_of}
 use Rattle.segments.proofs.Laws.{noted_begins, loaded}
-use borrow.Author.Rules.{rules}
 use Rattle.segments.proofs.load_segment.Goals as goal
 
 pub fill_segment-requires : goal.fill_segment-requires

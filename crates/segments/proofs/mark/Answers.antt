@@ -1,6 +1,5 @@
 use Rattle.segments.proofs.Laws.{count_is, count_few, marked_few, marked_many}
 use Rattle.protein.specs.Job.{job_of}
-use borrow.Author.Rules.{rules}
 use Rattle.segments.proofs.mark.Goals as goal
 
 pub returns-then-m-lt2 : goal.returns-then-m-lt2

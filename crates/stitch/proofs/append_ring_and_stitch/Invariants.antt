@@ -1,9 +1,7 @@
-use mathlib.Core.Path.{◌≡◌, refl, ◌∙◌}
+use mathlib.Core.Path.{◌≡◌}
 use Prim.Native.Nat.{◌+◌, ◌*◌, ◌-◌, ◌≤◌}
-use native.Mathlib.Omega.{arith}
 use Rattle.lists.specs.Put.{put, upto}
-use Rattle.lists.proofs.Puts.{next, turn, kept}
-use Rattle.edges.specs.Tube.{band_side, band}
+use Rattle.edges.specs.Tube.{band_side}
 use Rattle.edges.specs.Tube as tube
 use Rattle.stitch.proofs.append_ring_and_stitch.Given as goal
 

@@ -1,6 +1,5 @@
 use mathlib.Core.Path.{◌∙◌}
 use Rattle.edges.specs.Tube.{next}
-use borrow.Author.Rules.{rules}
 use Rattle.stitch.proofs.cap_side.Goals as goal
 
 -- Assumes nothing.

@@ -1,10 +1,7 @@
-use mathlib.Core.Path.{◌≡◌, refl, ◌∙◌}
+use mathlib.Core.Path.{◌≡◌}
 use Prim.Native.Nat.{◌+◌, ◌*◌, ◌-◌, ◌≤◌}
-use native.Mathlib.Omega.{arith}
 use Rattle.lists.specs.Put.{put, upto}
-use Rattle.lists.proofs.Puts.{turn, kept}
-use Rattle.edges.specs.Tube.{cap_side, cap}
-use Rattle.edges.proofs.Stack.{cap_side_size}
+use Rattle.edges.specs.Tube.{cap_side}
 use Rattle.stitch.proofs.emit_cap.Given as goal
 
 abbrev pub invariant-loop-k : goal.invariant-loop-k

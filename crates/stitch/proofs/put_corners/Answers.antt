@@ -1,7 +1,6 @@
 use native.Mathlib.Omega.{arith}
 use lib.ListN.{length-set}
 use Rattle.lists.proofs.Puts.{put3}
-use borrow.Author.Rules.{rules}
 use Rattle.stitch.proofs.put_corners.Goals as goal
 
 pub bounds-out-at-2 : goal.bounds-out-at-2

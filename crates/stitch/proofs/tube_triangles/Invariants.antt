@@ -1,14 +1,7 @@
-use mathlib.Core.Path.{◌≡◌, refl, sym, ap, ap₂, ◌∙◌}
+use mathlib.Core.Path.{◌≡◌}
 use Prim.Native.Nat.{suc, ◌+◌, ◌*◌, ◌-◌, ◌≤◌}
-use native.Mathlib.Numerals.{add-one}
-use native.Mathlib.Omega.{arith}
-use borrow.Author.Rules.{rules}
 use Rattle.lists.specs.Put.{put, upto}
-use Rattle.lists.proofs.Puts.{turn, kept}
-use Rattle.edges.specs.Tube.{ring, band, band_at}
-use Rattle.edges.proofs.Theorems.{vertex_count_lem, triangle_count_lem}
-use Rattle.edges.proofs.Stack.{band_size}
-use Rattle.stitch.proofs.Assembly.{assembled}
+use Rattle.edges.specs.Tube.{ring, band_at}
 use Rattle.stitch.proofs.tube_triangles.Given as goal
 
 abbrev pub invariant-loop-j : goal.invariant-loop-j

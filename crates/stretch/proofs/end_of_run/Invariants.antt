@@ -1,9 +1,6 @@
 use Prim.Native.Nat.{◌≤◌, ◌+◌, ◌-◌}
-use native.Mathlib.Omega.{arith}
-use borrow.Author.Rules.{rules}
 use Rattle.protein.specs.Job.{job_of}
 use Rattle.stretch.specs.Stretch.{Up}
-use Rattle.stretch.proofs.Laws.{up_one, up_more}
 use Rattle.stretch.proofs.end_of_run.Given as goal
 
 abbrev pub invariant-loop-a : goal.invariant-loop-a

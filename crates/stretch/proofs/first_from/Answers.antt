@@ -1,7 +1,5 @@
-use Prim.Native.Nat.{ℕ, ◌≤◌, ◌<◌, ◌+◌, ◌-◌, ◌/◌}
+use Prim.Native.Nat.{◌+◌, ◌-◌, ◌/◌}
 use native.Mathlib.Omega.{arith}
-use borrow.Author.Rules.{rules}
-use Rattle.protein.specs.Job.{job_of}
 use Rattle.stretch.proofs.first_from.Goals as goal
 
 pub loop-lo-init : goal.loop-lo-init

@@ -1,10 +1,6 @@
 use Prim.Native.Nat.{◌≤◌, ◌-◌}
-use mathlib.Core.Path.{sym, ap, ◌∙◌}
-use native.Mathlib.Omega.{arith}
-use borrow.Author.Rules.{rules}
 use Rattle.protein.specs.Job.{job_of}
-use Rattle.stretch.specs.Stretch.{inside, Outside}
-use Rattle.stretch.proofs.Laws.{inside_none, serial_few, outside_more}
+use Rattle.stretch.specs.Stretch.{Outside}
 use Rattle.stretch.proofs.first_inside.Given as goal
 
 abbrev pub invariant-loop-a : goal.invariant-loop-a

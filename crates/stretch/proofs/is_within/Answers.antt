@@ -1,4 +1,3 @@
-use borrow.Author.Rules.{rules}
 use Rattle.stretch.proofs.Laws.{within_is}
 use Rattle.stretch.proofs.is_within.Goals as goal
 

@@ -1,5 +1,4 @@
 use native.Mathlib.Omega.{arith}
-use borrow.Author.Rules.{rules}
 use Rattle.protein.specs.Job.{job_of}
 use Rattle.stretch.proofs.Laws.{holds_both}
 use Rattle.stretch.proofs.near.Goals as goal

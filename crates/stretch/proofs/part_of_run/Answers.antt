@@ -1,4 +1,3 @@
-use borrow.Author.Rules.{rules}
 use Rattle.protein.specs.Job.{job_of}
 use Rattle.stretch.proofs.Laws.{run_holds}
 use Rattle.stretch.proofs.part_of_run.Goals as goal

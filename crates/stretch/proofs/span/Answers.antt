@@ -1,8 +1,6 @@
-use Prim.Native.Nat.{ℕ, ◌≤◌, ◌<◌, ◌-◌}
+use Prim.Native.Nat.{◌-◌}
 use native.Mathlib.Omega.{arith}
-use borrow.Author.Rules.{rules}
 use Rattle.protein.specs.Job.{job_of}
-use Rattle.stretch.specs.Stretch.{In}
 use Rattle.stretch.proofs.Laws.{spans_turn}
 use Rattle.stretch.proofs.span.Goals as goal
 

@@ -1,9 +1,6 @@
 use Prim.Native.Nat.{ℕ, ◌≤◌, ◌<◌, ◌-◌}
-use native.Mathlib.Omega.{arith}
-use borrow.Author.Rules.{rules}
 use Rattle.protein.specs.Job.{job_of}
 use Rattle.stretch.specs.Stretch.{In}
-use Rattle.stretch.proofs.Laws.{spans_turn}
 use Rattle.stretch.proofs.span.Given as goal
 
 abbrev pub invariant-loop-a : goal.invariant-loop-a

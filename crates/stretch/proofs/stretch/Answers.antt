@@ -1,7 +1,6 @@
 use native.Mathlib.Omega.{arith}
 use Rattle.protein.specs.Job.{job_of}
 use Rattle.stretch.proofs.Laws.{reaches_front, reaches_both, reaches_behind}
-use borrow.Author.Rules.{rules}
 use Rattle.stretch.proofs.stretch.Goals as goal
 
 pub returns-then-end-runs : goal.returns-then-end-runs

@@ -1,5 +1,4 @@
 use native.Mathlib.Omega.{arith}
-use borrow.Author.Rules.{rules}
 use Rattle.stretch.proofs.widened.Goals as goal
 
 pub returns-then-p-r : goal.returns-then-p-r

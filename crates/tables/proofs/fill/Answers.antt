@@ -1,10 +1,8 @@
-use borrow.Author.Rules.{rules}
-use Prim.Native.Nat.{◌≤◌, ◌-◌, ◌+◌}
+use Prim.Native.Nat.{◌-◌}
 use mathlib.Core.Path.{◌≡◌}
 use native.Mathlib.Omega.{arith}
 use Rattle.tables.specs.Wants.{gives, found}
 use Rattle.protein.specs.Job.{job_of}
-use Rattle.scratch.specs.Scratch.{Filled}
 use Rattle.scratch.proofs.Laws.{fill_all, fill_again}
 use Rattle.tables.proofs.Laws.{fill_begins}
 use Rattle.tables.proofs.fill.Goals as goal

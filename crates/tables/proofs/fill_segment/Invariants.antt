@@ -1,12 +1,9 @@
-use borrow.Author.Rules.{rules}
 use Prim.Native.Nat.{◌≤◌, ◌<◌, ◌-◌}
 use mathlib.Core.Path.{◌≡◌}
 use mathlib.Core.Bool.{true}
-use native.Mathlib.Omega.{arith}
 use Rattle.protein.specs.Job.{job_of}
 use Rattle.stretch.specs.Stretch.{ranged}
 use Rattle.tables.specs.Table.{Filling}
-use Rattle.tables.proofs.Parts.{filling_start, filling_now, filling_turn, filling_end, narrowed_seen, narrowed_none}
 use Rattle.tables.proofs.fill_segment.Given as goal
 
 abbrev pub invariant-loop-a : goal.invariant-loop-a

@@ -1,4 +1,3 @@
-use borrow.Author.Rules.{rules}
 use Rattle.tables.proofs.has_role.Goals as goal
 
 pub returns : goal.returns

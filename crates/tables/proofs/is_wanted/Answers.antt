@@ -1,4 +1,3 @@
-use borrow.Author.Rules.{rules}
 use Rattle.tables.specs.Wants.{wants}
 use Rattle.tables.proofs.is_wanted.Goals as goal
 

@@ -1,9 +1,7 @@
 use mathlib.Core.Path.{sym, ◌∙◌}
 use native.Mathlib.Omega.{arith}
-use borrow.Author.Tests.{not-true, not-false}
 use Rattle.scratch.proofs.Laws.{fill_start}
 use Rattle.tables.proofs.Laws.{turn_hit, turn_miss, turn_out, turn_kept}
-use borrow.Author.Rules.{rules}
 use Rattle.tables.proofs.note.Goals as goal
 
 pub returns-then-not-is_wanted : goal.returns-then-not-is_wanted

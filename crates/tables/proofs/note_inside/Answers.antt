@@ -1,12 +1,10 @@
 use Prim.Native.Nat.{ℕ}
 use mathlib.Core.Path.{◌≡◌, sym, subst}
 use native.Mathlib.Omega.{arith}
-use borrow.Author.Tests.{not-true, not-false}
 use Rattle.lists.proofs.Bools.{clash}
 use Rattle.protein.specs.Job.{job_of}
 use Rattle.stretch.specs.Stretch.{In}
 use Rattle.tables.proofs.Parts.{alpha_wanted, oxygen_wanted, no_alpha, no_oxygen, filling_skip, filling_none, filling_alpha, filling_oxygen}
-use borrow.Author.Rules.{rules}
 use Rattle.tables.proofs.note_inside.Goals as goal
 
 pub returns-then-role-eq0 : goal.returns-then-role-eq0

@@ -1,13 +1,12 @@
 use Rattle.tables.specs.declared.Want.TheVariants.{Chain}
 use Rattle.tables.proofs.Laws.{grow_at, grow_same, grow_set, code_none, code_some}
 use Rattle.scratch.proofs.Laws.{fill_start}
-use Prim.Native.Nat.{ℕ, ◌≤◌, ◌-◌, ◌+◌}
+use Prim.Native.Nat.{ℕ, ◌-◌, ◌+◌}
 use mathlib.Core.Path.{◌≡◌, ap, ◌∙◌}
 use native.Mathlib.Omega.{arith}
 use borrow.Author.Rules.{rules}
-use Rattle.tables.specs.Wants.{gives, chain_of}
+use Rattle.tables.specs.Wants.{gives}
 use Rattle.protein.specs.Job.{job_of}
-use Rattle.scratch.specs.Scratch.{Filled}
 use Rattle.tables.proofs.to_chains.Goals.{then-a-ne0, else-a-ne0}
 use Rattle.lists.proofs.Searches.{last_le}
 use Rattle.tables.proofs.to_chains.Goals as goal

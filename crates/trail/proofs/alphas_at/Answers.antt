@@ -1,4 +1,3 @@
-use borrow.Author.Rules.{rules}
 use Rattle.trail.proofs.alphas_at.Goals as goal
 
 pub returns-in-Segment : goal.returns-in-Segment

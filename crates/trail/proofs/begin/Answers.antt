@@ -2,7 +2,6 @@ use native.Mathlib.Omega.{arith}
 use Rattle.protein.specs.Job.{job_of, segments_of}
 use Rattle.protein.specs.Places.{place_of, far_by}
 use Rattle.trail.proofs.Places.{begin_at, begin_left}
-use borrow.Author.Rules.{rules}
 use Rattle.trail.proofs.begin.Goals as goal
 
 pub returns : goal.returns

@@ -1,4 +1,3 @@
-use borrow.Author.Rules.{rules}
 use Rattle.trail.proofs.frames_at.Goals as goal
 
 pub returns-in-Coils : goal.returns-in-Coils

@@ -9,7 +9,6 @@ use Rattle.coils.specs.Coils.{Coiled, loose_list}
 use Rattle.trail.specs.Place.{Opened}
 use Rattle.scratch.proofs.Laws.{kept_refl}
 use Rattle.trail.proofs.Places.{opened, opened_all, gathered, covers_all, covers_still, tables_of, coils_onward, coil_onward, load_segment, load_first, load_coil, load_none, coils_over, moved_as}
-use borrow.Author.Rules.{rules}
 use Rattle.trail.proofs.load.Goals as goal
 
 pub next_segment-requires : goal.next_segment-requires

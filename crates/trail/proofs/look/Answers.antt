@@ -5,7 +5,6 @@ use Rattle.protein.specs.Places.{place_of, far_by}
 use Rattle.trail.specs.Place.{later, steps}
 use Rattle.scratch.proofs.Laws.{kept_refl}
 use Rattle.trail.proofs.Places.{frames_low, none_here, finds_as, steps_later, to_few, short_here, tube_here}
-use borrow.Author.Rules.{rules}
 use Rattle.trail.proofs.look.Goals as goal
 
 pub next_piece-step-requires : goal.next_piece-step-requires

@@ -5,7 +5,6 @@ use Rattle.protein.specs.Job.{job_of}
 use Rattle.protein.specs.Places.{place_of, far_by}
 use lib.ListN.{length-take}
 use Rattle.trail.proofs.Places.{frames_low, alphas_low, list_fits, alphas_fit, next_on, next_placed, next_sizes, next_says}
-use borrow.Author.Rules.{rules}
 use Rattle.trail.proofs.next_piece.Goals as goal
 
 pub overflow_add-end : goal.overflow_add-end

@@ -1,7 +1,6 @@
 use Rattle.protein.specs.Job.{job_of, segments_of}
 use Rattle.protein.specs.Places.{place_of, far_by}
 use Rattle.trail.proofs.Places.{segment_entered}
-use borrow.Author.Rules.{rules}
 use Rattle.trail.proofs.next_segment.Goals as goal
 
 pub enter-frames-requires : goal.enter-frames-requires

@@ -1,12 +1,8 @@
-use Prim.Native.Nat.{◌*◌, ◌≤◌}
-use mathlib.Core.Path.{◌≡◌, refl, sym, ◌∙◌}
+use mathlib.Core.Path.{refl, sym, ◌∙◌}
 use native.Mathlib.Omega.{arith}
 use Rattle.protein.specs.Job.{job_of, segments_of}
 use Rattle.protein.specs.Places.{place_of, far_by}
-use borrow.Author.Rules.{rules}
-use Rattle.scratch.specs.Scratch.{Kept}
 use Rattle.scratch.proofs.Laws.{kept_refl, kept_then}
-use Rattle.trail.specs.Place.{At, left_at, steps}
 use Rattle.trail.proofs.Places.{finds_here, finds_moved, finds_done, got_as}
 use Rattle.trail.proofs.next_tube.Goals as goal
 

@@ -2,7 +2,6 @@ use mathlib.Core.List.{[]}
 use native.Mathlib.Omega.{arith}
 use Rattle.protein.specs.Job.{job_of}
 use Rattle.trail.proofs.Places.{zero_at, still_zero, chains_found, fresh_is}
-use borrow.Author.Rules.{rules}
 use Rattle.trail.proofs.prepare.Goals as goal
 
 pub fill-requires : goal.fill-requires

@@ -3,7 +3,6 @@ use mathlib.Core.Path.{sym, ap, ◌∙◌}
 use lib.ListN.{length}
 use native.Mathlib.Omega.{arith}
 use Rattle.tube_call.proofs.Parts.{listed, part_full, part_empty}
-use borrow.Author.Rules.{rules}
 use Rattle.tube_call.proofs.locate.Goals as goal
 
 pub returns-then-size-eq0 : goal.returns-then-size-eq0

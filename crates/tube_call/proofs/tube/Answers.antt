@@ -3,7 +3,6 @@ use lib.ListN.{get_or}
 use Prim.Native.Nat.{◌+◌, ◌*◌}
 use native.Mathlib.Omega.{arith}
 use Rattle.tube_call.proofs.Laws.{part_none, part_few, part_many, part_out, part_in}
-use borrow.Author.Rules.{rules}
 use Rattle.tube_call.proofs.tube.Goals as goal
 
 pub returns-then-have-k : goal.returns-then-have-k

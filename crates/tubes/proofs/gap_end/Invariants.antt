@@ -1,13 +1,9 @@
 use Prim.Native.Nat.{ℕ, ◌≤◌, ◌<◌, ◌-◌}
 use mathlib.Core.Bool.{false}
-use mathlib.Core.Path.{◌≡◌, sym, ap, ◌∙◌}
+use mathlib.Core.Path.{◌≡◌}
 use lib.ListN.{get_or, length}
-use native.Mathlib.Omega.{arith}
-use borrow.Author.Rules.{rules}
-use borrow.Author.Count.{below_more}
 use Rattle.protein.specs.Places.{place_of, far_by}
 use Rattle.tubes.specs.Lists.{gap_in}
-use Rattle.tubes.proofs.Laws.{piece_at}
 use Rattle.tubes.proofs.gap_end.Given as goal
 
 abbrev pub invariant-loop-e : goal.invariant-loop-e

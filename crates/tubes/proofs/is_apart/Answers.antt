@@ -1,4 +1,3 @@
-use borrow.Author.Rules.{rules}
 use borrow.Author.Tests.{eq-eqb, ne_eqb}
 use Rattle.tubes.specs.Pieces.{apart}
 use Rattle.tubes.proofs.is_apart.Goals as goal

@@ -1,11 +1,8 @@
-use Prim.Native.Nat.{◌≤◌, ◌-◌}
+use Prim.Native.Nat.{◌-◌}
 use mathlib.Core.Path.{◌≡◌, refl}
 use Rattle.tubes.proofs.list_frames.Goals.{then-t-table-ne0, else-t-table-ne0}
-use lib.ListN.{length}
 use native.Mathlib.Omega.{arith}
-use borrow.Author.Rules.{rules}
-use Rattle.tubes.specs.Frames.{chosen}
-use Rattle.tubes.specs.Lists.{Listed, marked}
+use Rattle.tubes.specs.Lists.{marked}
 use Rattle.tubes.proofs.Laws.{frames_yes, frames_no, chosen_nothing, marked_out, listed_none}
 use Rattle.tubes.proofs.list_frames.Goals as goal
 

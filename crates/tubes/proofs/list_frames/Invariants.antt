@@ -1,12 +1,8 @@
 use Prim.Native.Nat.{◌≤◌, ◌-◌}
-use mathlib.Core.Path.{◌≡◌, refl}
-use mathlib.Core.Logic.{⊎_elim}
+use mathlib.Core.Path.{◌≡◌}
 use lib.ListN.{length}
-use native.Mathlib.Omega.{arith}
-use borrow.Author.Rules.{rules}
 use Rattle.tubes.specs.Frames.{chosen}
 use Rattle.tubes.specs.Lists.{Listed, marked}
-use Rattle.tubes.proofs.Laws.{frames_yes, frames_no, chosen_nothing, marked_out, listed_none}
 use Rattle.tubes.proofs.list_frames.Given as goal
 
 abbrev pub invariant-loop-k : goal.invariant-loop-k

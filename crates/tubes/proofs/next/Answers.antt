@@ -3,7 +3,6 @@ use Rattle.tubes.proofs.Laws.{each_part}
 use Rattle.tubes.specs.Lists.{Placed}
 use Rattle.tubes.proofs.Left.{none_left, got_piece}
 use lib.ListN.{length-take, length-drop}
-use borrow.Author.Rules.{rules}
 use Rattle.tubes.proofs.next.Goals as goal
 
 pub returns-then-at-list : goal.returns-then-at-list

@@ -1,12 +1,9 @@
 use Rattle.tubes.proofs.Laws.{piece_at}
-use Prim.Native.Nat.{ℕ, ◌≤◌, ◌<◌, ◌-◌}
+use Prim.Native.Nat.{◌-◌}
 use mathlib.Core.Bool.{false}
-use mathlib.Core.Path.{◌≡◌, sym, ◌∙◌}
-use lib.ListN.{get_or, length}
+use mathlib.Core.Path.{sym, ◌∙◌}
 use native.Mathlib.Omega.{arith}
-use borrow.Author.Rules.{rules}
 use borrow.Author.Count.{below_more}
-use Rattle.tubes.specs.Pieces.{apart}
 use Rattle.tubes.proofs.piece_end.Goals as goal
 
 pub loop-e-init : goal.loop-e-init

@@ -1,11 +1,7 @@
-use Rattle.tubes.proofs.Laws.{piece_at}
 use Prim.Native.Nat.{ℕ, ◌≤◌, ◌<◌, ◌-◌}
 use mathlib.Core.Bool.{false}
-use mathlib.Core.Path.{◌≡◌, sym, ◌∙◌}
+use mathlib.Core.Path.{◌≡◌}
 use lib.ListN.{get_or, length}
-use native.Mathlib.Omega.{arith}
-use borrow.Author.Rules.{rules}
-use borrow.Author.Count.{below_more}
 use Rattle.tubes.specs.Pieces.{apart}
 use Rattle.tubes.proofs.piece_end.Given as goal
 

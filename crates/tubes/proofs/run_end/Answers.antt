@@ -1,7 +1,6 @@
 use native.Mathlib.Omega.{arith}
 use lib.ListN.{get_or}
 use Rattle.tubes.proofs.Left.{run_new}
-use borrow.Author.Rules.{rules}
 use Rattle.tubes.proofs.run_end.Goals as goal
 
 pub returns : goal.returns

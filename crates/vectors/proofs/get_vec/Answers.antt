@@ -1,6 +1,5 @@
 use mathlib.Core.Path.{refl}
 use Rattle.vectors.specs.Vec.{vec_at}
-use borrow.Author.Rules.{rules}
 use Rattle.vectors.proofs.get_vec.Goals as goal
 
 pub returns : goal.returns

@@ -1,6 +1,5 @@
 use native.Mathlib.Omega.{arith}
 use borrow.Author.Tests.{eq-eqb, ne_eqb}
-use borrow.Author.Rules.{rules}
 use Rattle.edges.proofs.Theorems.{vertex_count_lem, triangle_count_lem}
 use Rattle.walk.specs.Walk.{grown_by}
 use Rattle.walk.proofs.add_tube.Goals as goal

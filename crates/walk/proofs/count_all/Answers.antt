@@ -1,16 +1,12 @@
-use Prim.Native.Nat.{◌*◌, ◌≤◌}
 use mathlib.Core.Bool.{false}
-use mathlib.Core.Path.{◌≡◌, ap, ◌∙◌}
+use mathlib.Core.Path.{ap, ◌∙◌}
 use native.Mathlib.Omega.{arith}
-use borrow.Author.Rules.{rules}
 use Rattle.protein.specs.Job.{job_of, segments_of}
 use Rattle.protein.specs.Places.{place_of, far_by}
 use Rattle.tubes.specs.List.{tube_list}
 use Rattle.protein.specs.Protein.{protein_of}
-use Rattle.scratch.specs.Scratch.{Kept}
 use Rattle.scratch.proofs.Laws.{kept_refl, kept_then}
 use Rattle.walk.specs.Walk.{counted, all_frames}
-use Rattle.trail.specs.Place.{At, left_at, steps}
 use Rattle.walk.proofs.Laws.{small_way, small_end, twice_grown, counted_turn, counted_over}
 use Rattle.trail.proofs.Places.{gives_got, gives_end}
 use Rattle.walk.proofs.Found.{got_few, got_grown}

@@ -1,21 +1,15 @@
 use Prim.Native.Nat.{◌*◌}
 use mathlib.Core.Bool.{true}
-use mathlib.Core.Path.{◌≡◌, refl, ◌∙◌}
-use native.Mathlib.Omega.{arith}
+use mathlib.Core.Path.{◌≡◌}
 use lib.ListN.{length, drop}
-use borrow.Author.Rules.{rules}
 use Rattle.protein.specs.Job.{job_of, segments_of}
 use Rattle.protein.specs.Places.{place_of, far_by}
 use Rattle.tubes.specs.List.{tube_list}
 use Rattle.protein.specs.Protein.{protein_of}
 use Rattle.scratch.specs.Scratch.{Kept}
-use Rattle.scratch.proofs.Laws.{kept_refl, kept_then}
 use Rattle.buffers.specs.Outs.{outs}
-use Rattle.walk.specs.Walk.{all_frames, Left}
+use Rattle.walk.specs.Walk.{Left}
 use Rattle.trail.specs.Place.{At, left_at, steps}
-use Rattle.walk.proofs.Laws.{small_way, small_end, left_start, left_counted, left_over, left_room, left_turn}
-use Rattle.trail.proofs.Places.{alphas_under, gives_got, gives_end}
-use Rattle.walk.proofs.Found.{got_long, got_table, got_sited, got_aired}
 use Rattle.walk.proofs.write_all.Given as goal
 
 abbrev pub invariant-loop-from : goal.invariant-loop-from

@@ -6,7 +6,6 @@ use Rattle.protein.specs.Job.{job_of}
 use Rattle.protein.specs.Protein.{protein_of}
 use Rattle.walk.proofs.Laws.{ready_fits}
 use Rattle.walk.proofs.Parts.{alphas_end, oxygens_end, alphas_map, oxygens_map, alphas_atoms, oxygens_atoms, alphas_length, oxygens_length, wrote_as}
-use borrow.Author.Rules.{rules}
 use Rattle.lists.proofs.Any.{drop_tail}
 use Rattle.walk.proofs.write_one.Goals as goal
 

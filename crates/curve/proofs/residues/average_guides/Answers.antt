@@ -1,5 +1,4 @@
 use Rattle.curve.specs.Residues.{settled}
-use borrow.Author.Rules.{rules}
 use Rattle.curve.proofs.residues.average_guides.Goals as goal
 
 pub returns : goal.returns

@@ -1,10 +1,9 @@
 use borrow.Author.Rules.{rules}
-use mathlib.Core.Path.{◌≡◌, refl}
-use Prim.Native.Nat.{ℕ, ◌-◌, ◌≤◌}
+use mathlib.Core.Path.{refl}
+use Prim.Native.Nat.{◌-◌}
 use native.Mathlib.Omega.{arith}
 use Rattle.lists.specs.Put.{put, upto}
 use Rattle.lists.proofs.Puts.{turn, kept}
-use Rattle.vectors.specs.Vec.{floats_of}
 use Rattle.curve.specs.Residues.{same}
 use Rattle.vectors.proofs.Flat.{vec_whole}
 use Rattle.curve.proofs.residues.fill.Goals as goal

@@ -1,12 +1,7 @@
-use borrow.Author.Rules.{rules}
-use mathlib.Core.Path.{◌≡◌, refl}
+use mathlib.Core.Path.{◌≡◌}
 use Prim.Native.Nat.{ℕ, ◌-◌, ◌≤◌}
-use native.Mathlib.Omega.{arith}
-use Rattle.lists.specs.Put.{put, upto}
-use Rattle.lists.proofs.Puts.{turn, kept}
+use Rattle.lists.specs.Put.{put}
 use Rattle.vectors.specs.Vec.{floats_of}
-use Rattle.curve.specs.Residues.{same}
-use Rattle.vectors.proofs.Flat.{vec_whole}
 use Rattle.curve.proofs.residues.fill.Given as goal
 
 abbrev pub invariant-loop-i : goal.invariant-loop-i

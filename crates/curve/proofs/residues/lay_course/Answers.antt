@@ -4,7 +4,6 @@ use lib.ListN.{take, drop}
 use Rattle.curve.specs.Residues.{oxygen_at, guides_of}
 use Rattle.smooth.proofs.Laws.{smoothable}
 use Rattle.curve.proofs.Laws.{length_laid, laid_points}
-use borrow.Author.Rules.{rules}
 use Rattle.curve.proofs.residues.lay_course.Goals as goal
 
 pub slice_bounds-straighten-end-2 : goal.slice_bounds-straighten-end-2

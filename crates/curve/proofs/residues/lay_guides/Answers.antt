@@ -1,5 +1,4 @@
 use Rattle.curve.proofs.Laws.{laid_guides}
-use borrow.Author.Rules.{rules}
 use Rattle.curve.proofs.residues.lay_guides.Goals as goal
 
 pub returns : goal.returns

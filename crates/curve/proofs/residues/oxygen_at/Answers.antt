@@ -1,6 +1,5 @@
 use borrow.Author.Tests.{eq-eqb, ne_eqb}
 use Rattle.curve.specs.Residues.{oxygen_at}
-use borrow.Author.Rules.{rules}
 use Rattle.curve.proofs.residues.oxygen_at.Goals as goal
 
 pub returns-then-flags-i-eq0 : goal.returns-then-flags-i-eq0

@@ -1,5 +1,4 @@
 use Rattle.curve.specs.Residues.{raw_at}
-use borrow.Author.Rules.{rules}
 use Rattle.curve.proofs.residues.raw_of.Goals as goal
 
 pub returns : goal.returns

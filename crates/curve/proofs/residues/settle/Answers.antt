@@ -1,5 +1,4 @@
 use Rattle.curve.specs.Residues.{settled}
-use borrow.Author.Rules.{rules}
 use Rattle.curve.proofs.residues.settle.Goals as goal
 
 pub returns-in-Coil : goal.returns-in-Coil

@@ -1,13 +1,9 @@
-use borrow.Author.Rules.{rules}
-use mathlib.Core.Path.{◌≡◌, refl, ◌∙◌}
+use mathlib.Core.Path.{◌≡◌}
 use Prim.Native.Nat.{◌+◌, ◌*◌, ◌-◌, ◌≤◌}
-use native.Mathlib.Omega.{arith}
 use lib.ListN.{take, drop}
-use Rattle.lists.specs.Put.{put, upto}
-use Rattle.lists.proofs.Puts.{kept}
+use Rattle.lists.specs.Put.{put}
 use Rattle.vectors.specs.Vec.{floats_of}
 use Rattle.curve.specs.Residues.{oxygen_at, raw_at, signed_at}
-use Rattle.curve.proofs.Laws.{raw_still, signed_put, signed_step, signed_whole}
 use Rattle.curve.proofs.residues.signed_guides.Given as goal
 
 abbrev pub invariant-loop-i : goal.invariant-loop-i

@@ -1,5 +1,4 @@
 use Rattle.curve.specs.Residues.{points_of}
-use borrow.Author.Rules.{rules}
 use Rattle.curve.proofs.residues.straighten.Goals as goal
 
 pub returns-in-Coil : goal.returns-in-Coil

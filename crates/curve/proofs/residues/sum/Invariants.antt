@@ -1,9 +1,6 @@
-use borrow.Author.Rules.{rules}
-use mathlib.Core.Path.{◌≡◌, refl}
+use mathlib.Core.Path.{◌≡◌}
 use Prim.Native.Nat.{◌-◌, ◌≤◌}
-use native.Mathlib.Omega.{arith}
 use Rattle.curve.specs.Residues.{sum_of}
-use Rattle.curve.proofs.Laws.{sum_step}
 use Rattle.curve.proofs.residues.sum.Given as goal
 
 abbrev pub invariant-loop-i : goal.invariant-loop-i

@@ -1,5 +1,4 @@
 use Rattle.curve.specs.Residues.{tangent_at}
-use borrow.Author.Rules.{rules}
 use Rattle.curve.proofs.residues.tangent_at.Goals as goal
 
 pub returns : goal.returns

@@ -1,5 +1,4 @@
 use borrow.Author.Tests.{eq-eqb, ne_eqb}
-use borrow.Author.Rules.{rules}
 use Rattle.curve.proofs.samples.before.Goals as goal
 
 pub returns-then-i-eq0 : goal.returns-then-i-eq0

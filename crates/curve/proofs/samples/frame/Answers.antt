@@ -1,5 +1,4 @@
 use Rattle.curve.specs.Samples.{frame_of}
-use borrow.Author.Rules.{rules}
 use Rattle.curve.proofs.samples.frame.Goals as goal
 
 pub returns : goal.returns

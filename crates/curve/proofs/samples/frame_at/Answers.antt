@@ -1,5 +1,4 @@
 use Rattle.curve.specs.Samples.{frame_at}
-use borrow.Author.Rules.{rules}
 use Rattle.curve.proofs.samples.frame_at.Goals as goal
 
 pub returns : goal.returns

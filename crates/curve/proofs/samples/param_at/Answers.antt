@@ -1,6 +1,5 @@
 use borrow.Author.Tests.{lt-ltb, le-ltb}
 use Rattle.curve.specs.Samples.{param_at}
-use borrow.Author.Rules.{rules}
 use Rattle.curve.proofs.samples.param_at.Goals as goal
 
 pub returns-then-s-n : goal.returns-then-s-n

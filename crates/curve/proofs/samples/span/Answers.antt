@@ -1,5 +1,4 @@
 use Rattle.curve.specs.Samples.{span_of}
-use borrow.Author.Rules.{rules}
 use Rattle.curve.proofs.samples.span.Goals as goal
 
 pub returns : goal.returns

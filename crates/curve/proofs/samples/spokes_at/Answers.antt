@@ -1,5 +1,4 @@
 use Rattle.shape.specs.Ring.{profile_of}
-use borrow.Author.Rules.{rules}
 use Rattle.curve.proofs.samples.spokes_at.Goals as goal
 
 pub returns-then-in_arrow : goal.returns-then-in_arrow

@@ -1,6 +1,5 @@
 use native.Mathlib.Omega.{arith}
 use Rattle.curve.specs.Samples.{tag_at}
-use borrow.Author.Rules.{rules}
 use Rattle.curve.proofs.samples.tag_at.Goals as goal
 
 pub returns-then-param_at : goal.returns-then-param_at

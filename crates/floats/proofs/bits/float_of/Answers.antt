@@ -1,4 +1,3 @@
-use borrow.Author.Rules.{rules}
 use Rattle.floats.proofs.Written.{nan_pattern, plain_pattern}
 use Rattle.floats.proofs.bits.float_of.Goals as goal
 

@@ -1,4 +1,3 @@
-use borrow.Author.Rules.{rules}
 use Rattle.floats.proofs.RootBits.{same_no_nan}
 use Rattle.floats.proofs.Written.{nan_word}
 use Rattle.floats.proofs.bits.float_word.Goals as goal

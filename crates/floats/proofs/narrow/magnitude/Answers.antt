@@ -3,7 +3,6 @@ use Prim.Native.Nat.{ℕ, ◌+◌, ◌-◌, ◌*◌, ◌^◌}
 use native.Mathlib.Omega.{arith}
 use mathlib.Core.Bool.{cond}
 use Rattle.floats.proofs.Narrows.{none, small_at, high_at, over_at, shl_pos, shl_even, small_le, high_le}
-use borrow.Author.Rules.{rules}
 use Rattle.floats.proofs.narrow.magnitude.Goals as goal
 
 pub returns-then-e-lt872 : goal.returns-then-e-lt872

@@ -2,7 +2,6 @@ use mathlib.Core.Path.{sym, ◌∙◌}
 use lib.Ieee.{binary32, binary64, of_bits}
 use Rattle.floats.specs.Floats.{narrowed}
 use Rattle.floats.proofs.Written.{no_nan_of, value_of, nan_of, zero_over_zero, bits_nan, narrowed_fits}
-use borrow.Author.Rules.{rules}
 use Rattle.floats.proofs.narrow.narrow.Goals as goal
 
 pub returns-then-r-eq2143289344 : goal.returns-then-r-eq2143289344

@@ -7,7 +7,6 @@ use lib.Ieee.Bits.{is_true, is_false}
 use native.Mathlib.Nat.{zero-add, add_comm}
 use lib.Dec.{leb}
 use Rattle.floats.proofs.Narrows.{is_nan, joined}
-use borrow.Author.Rules.{rules}
 use Rattle.floats.proofs.narrow.narrow_bits.Goals as goal
 
 pub returns-then-a-gt9218868437227405312 : goal.returns-then-a-gt9218868437227405312

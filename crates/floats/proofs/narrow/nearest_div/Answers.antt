@@ -1,5 +1,4 @@
 use Rattle.floats.proofs.Closest.{closest_add}
-use borrow.Author.Rules.{rules}
 use Rattle.floats.proofs.narrow.nearest_div.Goals as goal
 
 pub returns : goal.returns

@@ -3,7 +3,6 @@ use Prim.Native.Nat.{ℕ, ◌+◌, ◌-◌, ◌*◌, ◌/◌, ◌%◌, ◌^◌, 
 use native.Mathlib.Omega.{arith}
 use lib.Count.{count_leading_zeros}
 use Rattle.floats.proofs.RootBits.{lift_ge, lift_le, lifted_ge, lifted_lt, split_is, normal_is, small_is}
-use borrow.Author.Rules.{rules}
 use Rattle.floats.proofs.root.lifted.Goals as goal
 
 whole : (m s : ℕ) → 2 ^ 23 ≤ m → m < 2 ^ 24 → s ≤ 23 → ((127 - s) * 2 ^ 23 + m) % 2 ^ 23 + 2 ^ 23 ≡ m

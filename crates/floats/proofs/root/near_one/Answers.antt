@@ -1,4 +1,3 @@
-use borrow.Author.Rules.{rules}
 use Rattle.floats.proofs.RootBits.{near_one_is}
 use Rattle.floats.proofs.root.near_one.Goals as goal
 

@@ -1,6 +1,5 @@
 use native.Mathlib.Omega.{arith}
 use Rattle.floats.proofs.Squares.{sq_le, near_le}
-use borrow.Author.Rules.{rules}
 use Rattle.floats.proofs.root.nearest_root.Goals as goal
 
 pub overflow_mul-s : goal.overflow_mul-s

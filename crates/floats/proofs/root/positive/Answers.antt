@@ -3,7 +3,6 @@ use Prim.Native.Nat.{ℕ, ◌+◌, ◌/◌, ◌%◌, ◌^◌}
 use native.Mathlib.Omega.{arith}
 use Rattle.floats.proofs.Squares.{Near}
 use Rattle.floats.proofs.RootBits.{scaled_is, scaled_lt, scaled_ge, positive_is}
-use borrow.Author.Rules.{rules}
 use Rattle.floats.proofs.root.positive.Goals as goal
 
 pub nearest_root-q-requires : goal.nearest_root-q-requires

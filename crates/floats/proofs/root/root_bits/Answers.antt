@@ -3,7 +3,6 @@ use Prim.Native.Nat.{ℕ}
 use lib.Ieee.{binary32, to_bits, of_bits}
 use Rattle.floats.specs.Floats.{root}
 use Rattle.floats.proofs.RootBits.{at_zero, between_is}
-use borrow.Author.Rules.{rules}
 use Rattle.floats.proofs.root.root_bits.Goals as goal
 
 pub near_one-requires : goal.near_one-requires

@@ -6,7 +6,6 @@ use lib.Ieee.Bits.{of_bits-to_bits}
 use Rattle.floats.specs.Floats.{root}
 use Rattle.floats.proofs.RootBits.{same_no_nan}
 use Rattle.floats.proofs.Written.{no_nan_of, value_of, nan_of, zero_over_zero, bits_nan, root_fits, root_nan, differs}
-use borrow.Author.Rules.{rules}
 use Rattle.floats.proofs.root.square_root.Goals as goal
 
 held : (x : Float) → fits binary32 x ≡ true → T (fits binary32 x)

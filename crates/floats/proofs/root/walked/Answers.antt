@@ -8,8 +8,8 @@ use Rattle.floats.proofs.root.walked.Goals as goal
 
 -- where r * r + r is below n, r is below 2 ^ 24
 
-sq-room : (n r : ℕ) → n < 2 ^ 48 → r * r + r < n → r < 2 ^ 24
-sq-room n r h k = lt_of_not-le (λ (g : 2 ^ 24 ≤ r). over n (r * r) r h k (mul-le-mul g g))
+sq_room : (n r : ℕ) → n < 2 ^ 48 → r * r + r < n → r < 2 ^ 24
+sq_room n r h k = lt_of_not-le (λ (g : 2 ^ 24 ≤ r). over n (r * r) r h k (mul-le-mul g g))
   where
     over : (n x r : ℕ) → n < 2 ^ 48 → x + r < n → 2 ^ 48 ≤ x → ⊥
     over n x r a b c = omega arith
@@ -54,10 +54,10 @@ pub overflow_add-r-in-loop-r-2 : goal.overflow_add-r-in-loop-r-2
 overflow_add-r-in-loop-r-2 c = omega arith
 
 pub loop-r-2-smaller : goal.loop-r-2-smaller
-loop-r-2-smaller c = omega (arith, sq-room c.args.n c.loop-r-2.r c.requires.1 c.loop-r-2-test.true)
+loop-r-2-smaller c = omega (arith, sq_room c.args.n c.loop-r-2.r c.requires.1 c.loop-r-2-test.true)
 
 pub loop-r-2-preserved : goal.loop-r-2-preserved
-loop-r-2-preserved c = omega (arith, sq-room c.args.n c.loop-r-2.r c.requires.1 c.loop-r-2-test.true, sq_next c.loop-r-2.r)
+loop-r-2-preserved c = omega (arith, sq_room c.args.n c.loop-r-2.r c.requires.1 c.loop-r-2-test.true, sq_next c.loop-r-2.r)
 
 pub returns : goal.returns
 returns c = omega arith

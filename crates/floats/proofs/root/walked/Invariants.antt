@@ -1,7 +1,4 @@
-use Prim.Native.Nat.{ℕ, zero, suc, ◌+◌, ◌-◌, ◌*◌, ◌^◌, ◌≤◌, ◌<◌}
-use native.Mathlib.Nat.{mul-le-mul, lt_of_not-le, zero-lt-suc}
-use native.Mathlib.Omega.{arith}
-use Rattle.floats.proofs.Squares.{sq_next, sq_le, near_le}
+use Prim.Native.Nat.{◌+◌, ◌-◌, ◌*◌, ◌^◌, ◌≤◌, ◌<◌}
 use Rattle.floats.proofs.root.walked.Given as goal
 
 abbrev pub invariant-loop-r : goal.invariant-loop-r

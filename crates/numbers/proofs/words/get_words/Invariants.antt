@@ -1,10 +1,8 @@
 use Prim.Native.Nat.{ℕ, ◌≤◌, ◌-◌, ◌*◌, ◌+◌}
-use mathlib.Core.Path.{◌≡◌, refl, ◌∙◌}
+use mathlib.Core.Path.{◌≡◌}
 use mathlib.Core.List.{[], ◌∷◌}
 use lib.ListN.{length}
-use native.Mathlib.Omega.{arith}
 use Rattle.lists.specs.Put.{put, upto}
-use Rattle.lists.proofs.Puts.{set_turn, kept}
 use Rattle.numbers.specs.Bytes.{u32_at}
 use Rattle.numbers.proofs.words.get_words.Given as goal
 

@@ -1,9 +1,7 @@
-use Prim.Native.Nat.{ℕ, ◌≤◌, ◌-◌}
-use mathlib.Core.Path.{◌≡◌, refl, ◌∙◌}
-use lib.ListN.{length, get_or}
-use native.Mathlib.Omega.{arith}
-use Rattle.lists.specs.Put.{put, upto}
-use Rattle.lists.proofs.Puts.{set_turn, kept}
+use Prim.Native.Nat.{◌≤◌, ◌-◌}
+use mathlib.Core.Path.{◌≡◌}
+use lib.ListN.{length}
+use Rattle.lists.specs.Put.{put}
 use Rattle.numbers.specs.Words.{plain_bytes}
 use Rattle.numbers.proofs.words.put_bytes.Given as goal
 

@@ -1,12 +1,8 @@
-use Prim.Native.Nat.{ℕ, ◌≤◌, ◌-◌}
-use mathlib.Core.Path.{◌≡◌, refl, ◌∙◌}
-use lib.ListN.{length, get_or}
-use native.Mathlib.Omega.{arith}
-use Rattle.lists.specs.Put.{put, upto}
-use Rattle.lists.proofs.Puts.{turn, kept}
-use Rattle.numbers.specs.Bytes.{u16, u32}
+use Prim.Native.Nat.{◌≤◌, ◌-◌}
+use mathlib.Core.Path.{◌≡◌}
+use lib.ListN.{length}
+use Rattle.lists.specs.Put.{put}
 use Rattle.numbers.specs.Words.{float_bytes}
-use lib.Ieee.{binary32, to_bits, nan}
 use Rattle.numbers.proofs.words.put_floats.Given as goal
 
 abbrev pub invariant-loop-i : goal.invariant-loop-i

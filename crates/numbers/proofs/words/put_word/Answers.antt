@@ -3,7 +3,6 @@ use Rattle.lists.specs.Put.{put}
 use Rattle.numbers.proofs.Laws.{word_bytes}
 use native.Mathlib.Omega.{arith}
 use lib.ListN.{length-set}
-use borrow.Author.Rules.{rules}
 use Rattle.lists.proofs.Puts.{put4}
 use Rattle.numbers.proofs.words.put_word.Goals as goal
 

@@ -1,10 +1,7 @@
-use Prim.Native.Nat.{ℕ, ◌≤◌, ◌-◌}
-use mathlib.Core.Path.{◌≡◌, refl, ◌∙◌}
-use lib.ListN.{length, get_or}
-use native.Mathlib.Omega.{arith}
-use Rattle.lists.specs.Put.{put, upto}
-use Rattle.lists.proofs.Puts.{turn, kept}
-use Rattle.numbers.specs.Bytes.{u16, u32}
+use Prim.Native.Nat.{◌≤◌, ◌-◌}
+use mathlib.Core.Path.{◌≡◌}
+use lib.ListN.{length}
+use Rattle.lists.specs.Put.{put}
 use Rattle.numbers.specs.Words.{word_bytes}
 use Rattle.numbers.proofs.words.put_words.Given as goal
 

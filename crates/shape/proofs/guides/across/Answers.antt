@@ -1,5 +1,4 @@
 use Rattle.shape.specs.Guide.{across}
-use borrow.Author.Rules.{rules}
 use Rattle.shape.proofs.guides.across.Goals as goal
 
 pub returns : goal.returns

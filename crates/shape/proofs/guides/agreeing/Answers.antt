@@ -1,5 +1,4 @@
 use Rattle.shape.specs.Guide.{agreeing}
-use borrow.Author.Rules.{rules}
 use Rattle.shape.proofs.guides.agreeing.Goals as goal
 
 pub returns-then-dot : goal.returns-then-dot

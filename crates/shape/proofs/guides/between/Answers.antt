@@ -1,5 +1,4 @@
 use Rattle.shape.specs.Guide.{between}
-use borrow.Author.Rules.{rules}
 use Rattle.shape.proofs.guides.between.Goals as goal
 
 pub returns : goal.returns

@@ -1,5 +1,4 @@
 use Rattle.shape.specs.Guide.{compute_guide}
-use borrow.Author.Rules.{rules}
 use Rattle.shape.proofs.guides.compute_guide.Goals as goal
 
 pub returns : goal.returns

@@ -1,6 +1,5 @@
 use Rattle.vectors.specs.Vec.{normalised}
 use Rattle.shape.specs.Guide.{directed}
-use borrow.Author.Rules.{rules}
 use Rattle.shape.proofs.guides.directed.Goals as goal
 
 pub returns-then-l : goal.returns-then-l

@@ -1,5 +1,4 @@
 use Rattle.shape.specs.Guide.{fallback_perp}
-use borrow.Author.Rules.{rules}
 use Rattle.shape.proofs.guides.fallback_perp.Goals as goal
 
 pub returns : goal.returns

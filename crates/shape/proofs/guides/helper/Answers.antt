@@ -1,4 +1,3 @@
-use borrow.Author.Rules.{rules}
 use Rattle.shape.proofs.guides.helper.Goals as goal
 
 pub returns-then-magnitude_of : goal.returns-then-magnitude_of

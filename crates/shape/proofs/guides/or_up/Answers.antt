@@ -1,5 +1,4 @@
 use Rattle.shape.specs.Guide.{or_up}
-use borrow.Author.Rules.{rules}
 use Rattle.shape.proofs.guides.or_up.Goals as goal
 
 pub returns-then-length : goal.returns-then-length

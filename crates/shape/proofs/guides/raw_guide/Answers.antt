@@ -1,5 +1,4 @@
 use Rattle.shape.specs.Guide.{raw_guide}
-use borrow.Author.Rules.{rules}
 use Rattle.shape.proofs.guides.raw_guide.Goals as goal
 
 pub returns-in-At : goal.returns-in-At

@@ -1,5 +1,4 @@
 use Rattle.shape.specs.Guide.{smooth_guide}
-use borrow.Author.Rules.{rules}
 use Rattle.shape.proofs.guides.smooth_guide.Goals as goal
 
 pub returns-then-l : goal.returns-then-l

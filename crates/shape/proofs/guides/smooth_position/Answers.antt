@@ -1,5 +1,4 @@
 use Rattle.shape.specs.Guide.{smooth_position}
-use borrow.Author.Rules.{rules}
 use Rattle.shape.proofs.guides.smooth_position.Goals as goal
 
 pub returns : goal.returns

@@ -1,5 +1,4 @@
 use Rattle.shape.specs.Guide.{tangent_of}
-use borrow.Author.Rules.{rules}
 use Rattle.shape.proofs.guides.tangent_of.Goals as goal
 
 pub returns : goal.returns

@@ -1,6 +1,5 @@
 use Rattle.vectors.specs.Vec.{normalised}
 use Rattle.shape.specs.Guide.{upright}
-use borrow.Author.Rules.{rules}
 use Rattle.shape.proofs.guides.upright.Goals as goal
 
 pub returns-then-l-limit : goal.returns-then-l-limit

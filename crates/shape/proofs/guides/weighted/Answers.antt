@@ -1,5 +1,4 @@
 use Rattle.shape.specs.Guide.{weighted}
-use borrow.Author.Rules.{rules}
 use Rattle.shape.proofs.guides.weighted.Goals as goal
 
 pub returns : goal.returns

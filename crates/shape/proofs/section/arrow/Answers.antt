@@ -1,5 +1,4 @@
 use Rattle.shape.specs.Ring.{arrow}
-use borrow.Author.Rules.{rules}
 use Rattle.shape.proofs.section.arrow.Goals as goal
 
 pub returns : goal.returns

@@ -1,5 +1,4 @@
 use Rattle.shape.specs.Ring.{cross_section}
-use borrow.Author.Rules.{rules}
 use Rattle.shape.proofs.section.cross_section.Goals as goal
 
 pub returns : goal.returns

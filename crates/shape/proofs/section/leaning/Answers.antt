@@ -1,4 +1,3 @@
-use borrow.Author.Rules.{rules}
 use Rattle.shape.proofs.section.leaning.Goals as goal
 
 pub returns : goal.returns

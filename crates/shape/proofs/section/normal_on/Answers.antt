@@ -1,5 +1,4 @@
 use Rattle.shape.specs.Ring.{normal_on}
-use borrow.Author.Rules.{rules}
 use Rattle.shape.proofs.section.normal_on.Goals as goal
 
 pub returns : goal.returns

@@ -1,5 +1,4 @@
 use Rattle.shape.specs.Ring.{point_on}
-use borrow.Author.Rules.{rules}
 use Rattle.shape.proofs.section.point_on.Goals as goal
 
 pub returns : goal.returns

@@ -1,12 +1,9 @@
-use borrow.Author.Rules.{rules}
 use mathlib.Core.Path.{◌≡◌, refl}
-use mathlib.Core.List.{[], ◌∷◌}
-use Prim.Native.Nat.{ℕ, ◌≤◌, ◌-◌}
+use Prim.Native.Nat.{◌-◌}
 use native.Mathlib.Omega.{arith}
-use lib.ListN.{get_or}
 use Rattle.lists.specs.Put.{put, upto}
 use Rattle.lists.proofs.Puts.{set_turn}
-use Rattle.shape.specs.Ring.{point_on, normal_on, spoke_past, ring_over}
+use Rattle.shape.specs.Ring.{point_on, normal_on, ring_over}
 use Rattle.shape.proofs.section.ring_over.Goals as goal
 
 pub loop-k-init : goal.loop-k-init

@@ -1,12 +1,9 @@
-use borrow.Author.Rules.{rules}
-use mathlib.Core.Path.{◌≡◌, refl}
+use mathlib.Core.Path.{◌≡◌}
 use mathlib.Core.List.{[], ◌∷◌}
 use Prim.Native.Nat.{ℕ, ◌≤◌, ◌-◌}
-use native.Mathlib.Omega.{arith}
 use lib.ListN.{get_or}
 use Rattle.lists.specs.Put.{put, upto}
-use Rattle.lists.proofs.Puts.{set_turn}
-use Rattle.shape.specs.Ring.{point_on, normal_on, spoke_past, ring_over}
+use Rattle.shape.specs.Ring.{point_on, normal_on, spoke_past}
 use Rattle.shape.proofs.section.ring_over.Given as goal
 
 abbrev pub invariant-loop-k : goal.invariant-loop-k

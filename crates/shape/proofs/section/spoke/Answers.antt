@@ -1,5 +1,4 @@
 use Rattle.shape.specs.Ring.{spoke_at}
-use borrow.Author.Rules.{rules}
 use Rattle.shape.proofs.section.spoke.Goals as goal
 
 pub returns : goal.returns

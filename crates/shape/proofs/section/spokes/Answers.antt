@@ -1,11 +1,9 @@
-use borrow.Author.Rules.{rules}
 use mathlib.Core.Path.{◌≡◌, refl}
-use mathlib.Core.List.{[], ◌∷◌}
-use Prim.Native.Nat.{ℕ, ◌≤◌, ◌-◌}
+use Prim.Native.Nat.{◌-◌}
 use native.Mathlib.Omega.{arith}
 use Rattle.lists.specs.Put.{put, upto}
 use Rattle.lists.proofs.Puts.{set_turn}
-use Rattle.shape.specs.Ring.{spoke_at, spokes_of}
+use Rattle.shape.specs.Ring.{spokes_of}
 use Rattle.shape.proofs.section.spokes.Goals as goal
 
 pub loop-k-init : goal.loop-k-init

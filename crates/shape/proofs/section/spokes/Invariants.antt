@@ -1,11 +1,8 @@
-use borrow.Author.Rules.{rules}
-use mathlib.Core.Path.{◌≡◌, refl}
+use mathlib.Core.Path.{◌≡◌}
 use mathlib.Core.List.{[], ◌∷◌}
 use Prim.Native.Nat.{ℕ, ◌≤◌, ◌-◌}
-use native.Mathlib.Omega.{arith}
 use Rattle.lists.specs.Put.{put, upto}
-use Rattle.lists.proofs.Puts.{set_turn}
-use Rattle.shape.specs.Ring.{spoke_at, spokes_of}
+use Rattle.shape.specs.Ring.{spoke_at}
 use Rattle.shape.proofs.section.spokes.Given as goal
 
 abbrev pub invariant-loop-k : goal.invariant-loop-k

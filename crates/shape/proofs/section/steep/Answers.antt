@@ -1,5 +1,4 @@
 use Rattle.shape.specs.Ring.{steep}
-use borrow.Author.Rules.{rules}
 use Rattle.shape.proofs.section.steep.Goals as goal
 
 pub returns : goal.returns

@@ -1,5 +1,4 @@
 use Rattle.shape.specs.Spline.{bend}
-use borrow.Author.Rules.{rules}
 use Rattle.shape.proofs.spline.bend.Goals as goal
 
 pub returns : goal.returns

@@ -1,5 +1,4 @@
 use Rattle.shape.specs.Spline.{catmull_rom}
-use borrow.Author.Rules.{rules}
 use Rattle.shape.proofs.spline.catmull_rom.Goals as goal
 
 pub returns : goal.returns

@@ -1,5 +1,4 @@
 use Rattle.shape.specs.Spline.{twist}
-use borrow.Author.Rules.{rules}
 use Rattle.shape.proofs.spline.twist.Goals as goal
 
 pub returns : goal.returns

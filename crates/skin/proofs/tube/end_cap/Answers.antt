@@ -1,4 +1,3 @@
-use borrow.Author.Rules.{rules}
 use Rattle.curve.specs.Samples.{ring_at}
 use Rattle.caps.specs.Caps.{end_normal}
 use Rattle.skin.specs.Tube.{ring_positions, ring_normals, ring_tags}

@@ -1,10 +1,8 @@
-use borrow.Author.Rules.{rules}
 use mathlib.Core.Path.{◌≡◌, ap}
-use Prim.Native.Nat.{ℕ, ◌≤◌, ◌-◌, ◌+◌, ◌*◌, ◌%◌}
+use Prim.Native.Nat.{ℕ, ◌-◌, ◌+◌, ◌*◌, ◌%◌}
 use native.Mathlib.Omega.{arith}
 use Rattle.lists.specs.Put.{put, upto}
 use Rattle.lists.proofs.Puts.{kept}
-use Rattle.rings.specs.Post.{Wrote}
 use Rattle.skin.specs.Tube.{ring_positions, ring_normals, ring_tags}
 use Rattle.skin.proofs.Laws.{length_positions, length_normals, length_tags}
 use Rattle.rings.proofs.Laws.{wrote_none, wrote_more, room}

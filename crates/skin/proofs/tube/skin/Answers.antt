@@ -2,7 +2,6 @@ use Rattle.lists.proofs.Puts.{kept}
 use Rattle.rings.proofs.Laws.{less, room, same_room}
 use Rattle.skin.proofs.Laws.{whole}
 use Rattle.edges.proofs.Theorems.{vertex_count_lem}
-use borrow.Author.Rules.{rules}
 use mathlib.Core.Path.{refl}
 use native.Mathlib.Omega.{arith}
 use Rattle.skin.specs.Tube.{skin_positions, skin_normals, tags_of}

@@ -1,15 +1,8 @@
-use borrow.Author.Rules.{rules}
 use mathlib.Core.Path.{◌≡◌}
 use Prim.Native.Nat.{ℕ, ◌≤◌, ◌-◌, ◌+◌, ◌*◌}
-use native.Mathlib.Omega.{arith}
 use Rattle.lists.specs.Put.{upto}
-use Rattle.lists.proofs.Puts.{kept}
-use Rattle.shape.specs.Ring.{cross_section}
-use Rattle.curve.specs.Samples.{ring_at}
 use Rattle.rings.specs.Post.{Wrote}
-use Rattle.rings.proofs.Laws.{wrote_none, wrote_turn, room}
 use Rattle.skin.specs.Tube.{ring_positions, ring_normals, ring_tags}
-use Rattle.skin.proofs.Laws.{on_span, length_positions, length_normals, length_tags}
 use Rattle.skin.proofs.tube.span_rings.Given as goal
 
 abbrev pub invariant-loop-j : goal.invariant-loop-j

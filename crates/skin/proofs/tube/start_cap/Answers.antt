@@ -1,4 +1,3 @@
-use borrow.Author.Rules.{rules}
 use Rattle.curve.specs.Samples.{ring_at}
 use Rattle.rings.proofs.Laws.{began_ring}
 use Rattle.skin.specs.Tube.{ring_positions, ring_normals, ring_tags, start_normal}

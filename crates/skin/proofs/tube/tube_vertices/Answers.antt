@@ -1,7 +1,6 @@
 use mathlib.Core.Path.{sym, ap, ◌∙◌}
 use Rattle.shape.specs.Ring.{spokes_of}
 use Rattle.skin.proofs.Laws.{length_front, laid, covered}
-use borrow.Author.Rules.{rules}
 use Rattle.skin.proofs.tube.tube_vertices.Goals as goal
 
 pub slice_bounds-skin-end : goal.slice_bounds-skin-end

@@ -1,10 +1,9 @@
-use borrow.Author.Rules.{rules}
 use mathlib.Core.Path.{ap, ◌∙◌}
-use Prim.Native.Nat.{◌+◌, ◌-◌, ◌≤◌}
+use Prim.Native.Nat.{◌+◌, ◌-◌}
 use native.Mathlib.Omega.{arith}
 use Rattle.vectors.specs.Vec.{vec_at}
 use Rattle.shape.specs.Guide.{smooth_guide}
-use Rattle.smooth.proofs.Laws.{Turned, turned_none, turned_long, turned_more, guides_done}
+use Rattle.smooth.proofs.Laws.{turned_none, turned_long, turned_more, guides_done}
 use Rattle.smooth.proofs.guides.guide_pass.Goals as goal
 
 pub loop-i-init : goal.loop-i-init

@@ -1,10 +1,6 @@
-use borrow.Author.Rules.{rules}
-use mathlib.Core.Path.{ap, ◌∙◌}
-use Prim.Native.Nat.{◌+◌, ◌-◌, ◌≤◌}
-use native.Mathlib.Omega.{arith}
-use Rattle.vectors.specs.Vec.{vec_at}
+use Prim.Native.Nat.{◌-◌, ◌≤◌}
 use Rattle.shape.specs.Guide.{smooth_guide}
-use Rattle.smooth.proofs.Laws.{Turned, turned_none, turned_long, turned_more, guides_done}
+use Rattle.smooth.proofs.Laws.{Turned}
 use Rattle.smooth.proofs.guides.guide_pass.Given as goal
 
 abbrev pub invariant-loop-i : goal.invariant-loop-i

@@ -1,10 +1,9 @@
-use borrow.Author.Rules.{rules}
 use mathlib.Core.Path.{ap, sym, ◌∙◌}
-use Prim.Native.Nat.{◌+◌, ◌-◌, ◌≤◌}
+use Prim.Native.Nat.{◌+◌, ◌-◌}
 use native.Mathlib.Omega.{arith}
 use Rattle.vectors.specs.Vec.{vec_at}
 use Rattle.shape.specs.Guide.{smooth_position}
-use Rattle.smooth.proofs.Laws.{after_inner, Turned, turned_none, turned_long, turned_more, positions_done}
+use Rattle.smooth.proofs.Laws.{after_inner, turned_none, turned_long, turned_more, positions_done}
 use Rattle.smooth.proofs.positions.position_pass.Goals as goal
 
 pub loop-i-init : goal.loop-i-init

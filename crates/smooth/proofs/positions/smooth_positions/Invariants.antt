@@ -1,9 +1,6 @@
-use borrow.Author.Rules.{rules}
-use mathlib.Core.Path.{sym, ◌∙◌}
 use Prim.Native.Nat.{◌-◌, ◌≤◌}
-use native.Mathlib.Omega.{arith}
-use Rattle.smooth.specs.Pass.{position_pass, smooth_positions}
-use Rattle.smooth.proofs.Laws.{length_positions, Passed, passed_none, passed_more, passed_all}
+use Rattle.smooth.specs.Pass.{position_pass}
+use Rattle.smooth.proofs.Laws.{Passed}
 use Rattle.smooth.proofs.positions.smooth_positions.Given as goal
 
 abbrev pub invariant-loop-k : goal.invariant-loop-k

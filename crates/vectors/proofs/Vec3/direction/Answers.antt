@@ -1,5 +1,4 @@
 use Rattle.vectors.specs.Vec.{direction_of}
-use borrow.Author.Rules.{rules}
 use Rattle.vectors.proofs.Vec3.direction.Goals as goal
 
 pub returns : goal.returns

@@ -1,5 +1,4 @@
 use Rattle.vectors.specs.Vec.{vlength}
-use borrow.Author.Rules.{rules}
 use Rattle.vectors.proofs.Vec3.length.Goals as goal
 
 pub returns : goal.returns

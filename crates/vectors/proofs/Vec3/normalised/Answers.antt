@@ -1,5 +1,4 @@
 use Rattle.vectors.specs.Vec.{normalised}
-use borrow.Author.Rules.{rules}
 use Rattle.vectors.proofs.Vec3.normalised.Goals as goal
 
 pub returns : goal.returns

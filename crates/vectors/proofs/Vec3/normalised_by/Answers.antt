@@ -2,7 +2,6 @@ use mathlib.Core.Path.{sym, ap, ◌∙◌}
 use Rattle.vectors.specs.declared.Direction.{Direction}
 use Rattle.vectors.specs.Vec.{vzero, or_else}
 use Rattle.vectors.proofs.Directions.{normalised_by_is}
-use borrow.Author.Rules.{rules}
 use Rattle.vectors.proofs.Vec3.normalised_by.Goals as goal
 
 pub returns-in-Along : goal.returns-in-Along
