@@ -137,6 +137,18 @@ run() { # NAME [ARGUMENT ...]
     esac
 }
 
+# A program opens a file by a name that is UTF-8 text. One whose name is not is opened here, and what it is given is the name of the descriptor: leaves it in
+# `name`. No process is started for a name of ASCII alone.
+name_for() { # STATUS FILE: STATUS ends where it cannot be opened, which is said as the program says it
+    local LC_ALL=C why
+    name=$2
+    [[ $2 == *[!$'\1'-$'\177']* ]] || return 0
+    ! printf %s "$2" | iconv -f UTF-8 -t UTF-8 >/dev/null 2>&1 || return 0
+    why=$( { exec 6<"$2"; } 2>&1) || { printf '%s: %s\n' "$2" "${why##*: }" >&2; exit "$1"; }
+    exec 6<"$2"
+    name=/proc/self/fd/6
+}
+
 usage() { sed -n '2,/^set /s/^# \{0,1\}//p' "$0"; }
 
 # The words of a command that takes one file: leaves in `file` nothing for standard input, or the file's name. -- ends the options.
@@ -149,7 +161,7 @@ one_file() { # [WORD ...]
         -?*) echo "${0##*/}: there is no option '$1'" >&2; usage >&2; exit 2 ;;
     esac
     [ $# -le 1 ] || { usage >&2; exit 2; }
-    [ $# = 0 ] || file=("$1")
+    [ $# = 0 ] || { name_for 1 "$1"; file=("$name"); }
 }
 
 # The words of a command that takes none.

@@ -6,12 +6,6 @@ use native.Mathlib.Omega.{arith}
 use borrow.Author.Rules.{rules}
 use Rattle.serve.proofs.serve_all.Goals as goal
 
-pub room_for_bytes-lent-requires : goal.room_for_bytes-lent-requires
-room_for_bytes-lent-requires c = tt
-
-pub room_for_bytes-bytes-requires : goal.room_for_bytes-bytes-requires
-room_for_bytes-bytes-requires c = tt
-
 pub loop-n-init : goal.loop-n-init
 loop-n-init c = (sym (length-replicate 188721 (of_bits binary32 0)), sym (length-replicate 102000 (of_bits binary32 0)), sym (length-replicate {A = ℕ} 34000 0), sym (length-replicate {A = ℕ} 203988 0), sym (length-replicate {A = ℕ} 5120 0), sym (length-replicate 6144 (of_bits binary32 0)), sym (length-replicate {A = ℕ} 4096 0), sym (length-replicate 16384 (of_bits binary32 0)), c.room_for_bytes-lent.ensures, c.room_for_bytes-bytes.ensures, sym (length-replicate {A = ℕ} 65536 0))
 
@@ -51,12 +45,6 @@ slice_bounds-serve-end-in-loop-n-10 c = c.loop-n.invariant.10
 pub serve-a-requires : goal.serve-a-requires
 serve-a-requires c = (omega (arith, c.requires, c.loop-n.invariant.10), omega (arith, c.loop-n.invariant.9))
 
-pub returns-in_default : goal.returns-in_default
-returns-in_default c = tt
-
-pub returns-then-not-good : goal.returns-then-not-good
-returns-then-not-good c = tt
-
 pub overflow_add-n : goal.overflow_add-n
 overflow_add-n c = omega arith
 
@@ -65,6 +53,3 @@ loop-n-smaller c = omega arith
 
 pub loop-n-preserved : goal.loop-n-preserved
 loop-n-preserved c = (sym c.positions-in-loop-n-1.given, sym c.normals-in-loop-n-1.given, sym c.tags-in-loop-n-1.given, sym c.triangles-in-loop-n-1.given, sym c.tubes-in-loop-n-1.given, sym c.boxes-in-loop-n-1.given, sym c.words-in-loop-n-1.given, sym c.floats-in-loop-n-1.given, sym c.lent-in-loop-n-1.given, sym c.bytes-in-loop-n-1.given, sym c.out-in-loop-n-1.given)
-
-pub returns : goal.returns
-returns c = tt
