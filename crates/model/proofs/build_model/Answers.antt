@@ -4,4 +4,4 @@ use borrow.Author.Rules.{rules}
 use Rattle.model.proofs.build_model.Goals as goal
 
 pub finish-requires : goal.finish-requires
-finish-requires c = (mesh_ready c.build-a.ensures c.a-in-Mesh-1.given.1, omega arith)
+finish-requires c = (mesh_ready c.build-a.ensures c.in-Mesh.is, omega arith)

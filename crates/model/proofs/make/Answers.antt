@@ -9,4 +9,4 @@ pub slice_bounds-build_model-end : goal.slice_bounds-build_model-end
 slice_bounds-build_model-end c = omega (arith, c.job-1.given, written_fits c.read_pdb-a.ensures c.in-Written.is)
 
 pub slice_bounds-build_model-end-in-Written : goal.slice_bounds-build_model-end-in-Written
-slice_bounds-build_model-end-in-Written c = sym (length-take-le _ _ (omega (arith, c.job-1.given, written_fits c.read_pdb-a.ensures c.a-in-Written-1.given.1)))
+slice_bounds-build_model-end-in-Written c = sym (length-take-le _ _ (omega (arith, c.job-1.given, written_fits c.read_pdb-a.ensures c.in-Written.is)))

@@ -9,4 +9,4 @@ pub slice_bounds-send-end : goal.slice_bounds-send-end
 slice_bounds-send-end c = omega (arith, c.job-1.given, written_fits c.read_pdb-a.ensures c.in-Written.is)
 
 pub slice_bounds-send-end-in-Written : goal.slice_bounds-send-end-in-Written
-slice_bounds-send-end-in-Written c = sym (length-take-le _ _ (omega (arith, c.job-1.given, written_fits c.read_pdb-a.ensures c.a-1.given.1)))
+slice_bounds-send-end-in-Written c = sym (length-take-le _ _ (omega (arith, c.job-1.given, written_fits c.read_pdb-a.ensures c.in-Written.is)))
