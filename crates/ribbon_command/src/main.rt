@@ -131,6 +131,7 @@ fn holds_every_job(
         × LargeRoom (buffers (outs positions.now normals.now tags.now triangles.now tubes.now boxes.now) words.now floats.now) }
 {}
 
+#[inline(never)]
 fn in_large_room(file: &[u8], w: Wish) -> u8 {
     let mut job = large_job();
     let mut positions = large_vectors();
@@ -194,6 +195,7 @@ fn copy(head: &[u8], room: &mut [u8])
     }
 }
 
+#[inline(never)]
 fn in_longest_file(from: &Source, head: &[u8], w: Wish, what: &[u8]) -> u8
     requires { length head.now ≤ 16777217 }
 {
@@ -212,6 +214,7 @@ fn in_longest_file(from: &Source, head: &[u8], w: Wish, what: &[u8]) -> u8
     1
 }
 
+#[inline(never)]
 fn in_long_file(from: &Source, head: &[u8], w: Wish, what: &[u8]) -> u8
     requires { length head.now ≤ 1500001 }
 {
@@ -234,8 +237,8 @@ fn in_long_file(from: &Source, head: &[u8], w: Wish, what: &[u8]) -> u8
     in_longest_file(from, &file[..n], w, b"ribbon: the file cannot be read")
 }
 
-// A file that is longer than the small room. The longer ones are called for from two places, since a function that is called from one alone, or is short, is made
-// a part of its caller: that would need the long stack even where the small room serves, and every page of a stack is touched when its function begins.
+// A file that is longer than the small room. What has the longer arrays stays apart from its caller, which would else need the long stack even where the small room
+// serves: every page of a stack is touched when its function begins.
 fn in_more_room(from: &Source, head: &[u8], w: Wish, large: bool) -> u8
     requires { length head.now ≤ 1500001 }
 {
