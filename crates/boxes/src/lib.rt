@@ -78,10 +78,8 @@ pub fn over_eight(b: Bounds, ps: [Vec3; 8]) -> Bounds
     ensures { result ≡ grown_by b (eight ps) }
 {
     let mut bounds = b;
-    let mut k = 0usize;
-    while k < 8 {
+    for k in 0usize..8 {
         bounds = grown(bounds, ps[k]);
-        k += 1;
     }
     bounds
 }

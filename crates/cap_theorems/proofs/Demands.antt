@@ -2,6 +2,7 @@
 -- s, with the buffers b lent, it answers r and leaves the buffers as b'), `BuildsShare s q m k b r b'` all that the one
 -- of build_share says. Assumes nothing. The definitions are those of specs/Caps, and `direction_of` of vectors.
 -- docs/PROOFS.md quotes each statement, with words.
+use Rattle.std.specs.Prelude.{Some, None}
 use Prim.Native.Nat.{ℕ, ◌-◌, ◌*◌, ◌<◌}
 use mathlib.Core.Bool.{true}
 use mathlib.Core.List.{List}
@@ -9,7 +10,6 @@ use mathlib.Core.Path.{◌≡◌}
 use lib.ListN.{length, take, drop}
 use lib.Ieee.{eq}
 use Rattle.vectors.specs.declared.Vec3.{Vec3}
-use Rattle.vectors.specs.declared.Direction.TheVariants.{Along, Nowhere}
 use Rattle.vectors.specs.Vec.{vlength, vec_at, lit, one, direction_of, normalised}
 use Rattle.vectors.proofs.Directions as directions
 use Rattle.shape.specs.Spline.{catmull_rom_tangent, of4}
@@ -49,21 +49,21 @@ share_caps_lit y B h = caps_lit (party.mesh_as_job y B) h
 -- ==== 'Normalising a vector of length 0 must say that there is no direction', and that of no other vector does: the
 -- length as it is computed
 
-pub no_direction : (a : Vec3) → (direction_of a ≡ Nowhere → eq (vlength a) (lit 0) ≡ true)
-    × (eq (vlength a) (lit 0) ≡ true → direction_of a ≡ Nowhere)
+pub no_direction : (a : Vec3) → (direction_of a ≡ None → eq (vlength a) (lit 0) ≡ true)
+    × (eq (vlength a) (lit 0) ≡ true → direction_of a ≡ None)
 no_direction a = directions.nowhere a
 
 -- so of the chord 'when the last two spline points coincide'
 pub coincide : {s : List ℕ} {b b' : Buffers} {c : Counts} (k : ℕ) {u : Tube}
     → Builds s b (Mesh c) b' → TubeAt (tubes_in s) k u
     → vec_at (points_in (protein_in s) u) (size_of u - 1) ≡ vec_at (points_in (protein_in s) u) (size_of u - 2)
-    → direction_of (last_chord (protein_in s) u) ≡ Nowhere
+    → direction_of (last_chord (protein_in s) u) ≡ None
 coincide k B at e = ends.same_points _ _ _ _ k B _ at e
 
 -- ==== 'an end cap then takes the last sample's tangent'
 
 pub cap_tangent : {s : List ℕ} {b b' : Buffers} {c : Counts} (k : ℕ) {u : Tube}
-    → Builds s b (Mesh c) b' → TubeAt (tubes_in s) k u → direction_of (last_chord (protein_in s) u) ≡ Nowhere
+    → Builds s b (Mesh c) b' → TubeAt (tubes_in s) k u → direction_of (last_chord (protein_in s) u) ≡ None
     → normal_at b'.outs (end_cap b'.outs k) ≡ last_tangent (protein_in s) u
 cap_tangent k B at e = ends.tangent _ _ _ _ k B _ at e
 
@@ -76,12 +76,12 @@ last_sample P u = caps.last_tangent_lem (points_in P u) (guides_in P u) (size_of
 -- normals of the tube are the Rust's
 
 pub cap_chord : {s : List ℕ} {b b' : Buffers} {c : Counts} (k : ℕ) {u : Tube} {v : Vec3}
-    → Builds s b (Mesh c) b' → TubeAt (tubes_in s) k u → direction_of (last_chord (protein_in s) u) ≡ Along v
+    → Builds s b (Mesh c) b' → TubeAt (tubes_in s) k u → direction_of (last_chord (protein_in s) u) ≡ Some v
     → (normal_at b'.outs (end_cap b'.outs k) ≡ v) × (normalised (last_chord (protein_in s) u) ≡ v)
 cap_chord k B at e = ends.chord_taken _ _ _ _ k B _ at _ e
 
 pub all_the_rusts : (P : Protein) (u : Tube) (v : Vec3)
-    → direction_of (last_chord P u) ≡ Along v → tube_normals P u ≡ rust_normals P u
+    → direction_of (last_chord P u) ≡ Some v → tube_normals P u ≡ rust_normals P u
 all_the_rusts P u v e = ends.as_rust P u v e
 
 -- and where it has none, all but the last three

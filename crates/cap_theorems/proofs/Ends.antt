@@ -1,4 +1,5 @@
 -- The normals of a tube end with its end cap's, in the list and in the buffers. Assumes nothing.
+use Rattle.std.specs.Prelude.{Some, None}
 use Prim.Native.Nat.{ℕ, ◌+◌, ◌-◌, ◌*◌, ◌<◌, ◌≤◌}
 use mathlib.Core.Bool.{true}
 use mathlib.Core.List.{List, ◌++◌}
@@ -8,7 +9,6 @@ use lib.ListN.{length, take, drop, length-append}
 use lib.Seq.{take_at, take-take}
 use lib.Ieee.{Float, nan, inf, fin}
 use Rattle.vectors.specs.declared.Vec3.{Vec3}
-use Rattle.vectors.specs.declared.Direction.TheVariants.{Along, Nowhere}
 use Rattle.vectors.specs.Vec.{vec_at, floats, direction_of, normalised}
 use Rattle.vectors.proofs.Flat.{vec_front, vec_last, vec_part}
 use Rattle.lists.specs.Put.{upto}
@@ -87,7 +87,7 @@ fronts P u e d two = front e ∙ sym (front d)
     front e = ap (take (3 * (vertices_of u - 1))) (front_then P u e) ∙ take_at (front_of P u) (floats e) (3 * (vertices_of u - 1)) (front_long P u two)
 
 -- and where the chord has a direction, so is that
-pub as_rust : (P : Protein) (u : Tube) (v : Vec3) → direction_of (last_chord P u) ≡ Along v → tube_normals P u ≡ rust_normals P u
+pub as_rust : (P : Protein) (u : Tube) (v : Vec3) → direction_of (last_chord P u) ≡ Some v → tube_normals P u ≡ rust_normals P u
 as_rust P u v e = let r = chord_kept (points_in P u) (guides_in P u) (size_of u) v e in normals_are P u ∙ ap (normals_to P u) (r.0 ∙ sym r.1)
 
 -- the start cap's stands behind the eight of the first ring
@@ -127,12 +127,12 @@ module _ (s : List ℕ) (b b' : Buffers) (c : Counts) (k : ℕ) (B : Builds s b 
     stands : TubeStands (protein_in s) u k (vertex_sum (take k (tubes_in s))) (triangle_sum (take k (tubes_in s))) b'.outs
     stands = calls.stands s b b' c k u B at
 
-    pub chord_taken : (v : Vec3) → direction_of (last_chord (protein_in s) u) ≡ Along v → (vec_at b'.outs.normals (end_cap b'.outs k) ≡ v) × (normalised (last_chord (protein_in s) u) ≡ v)
+    pub chord_taken : (v : Vec3) → direction_of (last_chord (protein_in s) u) ≡ Some v → (vec_at b'.outs.normals (end_cap b'.outs k) ≡ v) × (normalised (last_chord (protein_in s) u) ≡ v)
     chord_taken v e =
         let r = chord_kept (points_in (protein_in s) u) (guides_in (protein_in s) u) (size_of u) v e in
         (cap_is (protein_in s) u k _ _ b'.outs stands ∙ r.0, r.1)
 
-    pub tangent : direction_of (last_chord (protein_in s) u) ≡ Nowhere → vec_at b'.outs.normals (end_cap b'.outs k) ≡ last_tangent (protein_in s) u
+    pub tangent : direction_of (last_chord (protein_in s) u) ≡ None → vec_at b'.outs.normals (end_cap b'.outs k) ≡ last_tangent (protein_in s) u
     tangent e = cap_is (protein_in s) u k _ _ b'.outs stands ∙ tangent_taken (points_in (protein_in s) u) (guides_in (protein_in s) u) (size_of u) e
 
     pub others : (length (rust_normals (protein_in s) u) ≡ 3 * vertices_of u)
@@ -146,7 +146,7 @@ module _ (s : List ℕ) (b b' : Buffers) (c : Counts) (k : ℕ) (B : Builds s b 
               ∙ fronts P u (cap_of P u) (normalised (last_chord P u)) two,
         )
 
-    pub same_points : vec_at (points_in (protein_in s) u) (size_of u - 1) ≡ vec_at (points_in (protein_in s) u) (size_of u - 2) → direction_of (last_chord (protein_in s) u) ≡ Nowhere
+    pub same_points : vec_at (points_in (protein_in s) u) (size_of u - 1) ≡ vec_at (points_in (protein_in s) u) (size_of u - 2) → direction_of (last_chord (protein_in s) u) ≡ None
     same_points e = coincide s (head_of s) (records_of s (head_of s)) (accepted s (head_of s) (demands.accepted B).0.passes) u stands.two e
 
   pub lit : k < c.tubes → Lit (vec_at b'.outs.normals (start_cap b'.outs k)) × Lit (vec_at b'.outs.normals (end_cap b'.outs k))

@@ -1,4 +1,5 @@
 -- Of an accepted job: check 8 keeps every coordinate within 16384, so each C-alpha of a tube is at most 2 ^ 14 in size, and the caps of every tube have normals that are finite and not dark. Assumes nothing.
+use Rattle.std.specs.Prelude.{None}
 use Prim.Native.Nat.{ℕ, zero, suc, ◌-◌, ◌*◌, ◌≤◌}
 use mathlib.Core.Bool.{Bool, true, false, not, ◌||◌, false≢true}
 use mathlib.Core.List.{List, [], ◌∷◌, map}
@@ -13,7 +14,7 @@ use Rattle.floats.specs.Floats.{narrowed}
 use Rattle.lists.proofs.Bools.{or_left, or_rest}
 use Rattle.lists.proofs.Searches.{first_le, last_le}
 use Rattle.vectors.specs.declared.Vec3.{Vec3}
-use Rattle.vectors.specs.declared.Direction.TheVariants.{Nowhere}
+use Rattle.vectors.specs.declared.Option Vec3.TheVariants.{None}
 use Rattle.vectors.specs.Vec.{vsub, vec_at, direction_of}
 use Rattle.vectors.proofs.Flat.{floats_at}
 use Rattle.sizes.proofs.Most.{Real, Real3, vmore, round_real, self_nowhere}
@@ -104,7 +105,7 @@ module _ (s : List ℕ) (h : Head) (q : List ℕ) (A : Accepted s h q) (u : Tube
   points_real two = points_within (kind_of u.kind) _ (size_of u) spots_within
 
   -- two spline points that coincide have no direction between them
-  pub coincide : 2 ≤ size_of u → vec_at (points_in (protein_of s h) u) (size_of u - 1) ≡ vec_at (points_in (protein_of s h) u) (size_of u - 2) → direction_of (last_chord (protein_of s h) u) ≡ Nowhere
+  pub coincide : 2 ≤ size_of u → vec_at (points_in (protein_of s h) u) (size_of u - 1) ≡ vec_at (points_in (protein_of s h) u) (size_of u - 2) → direction_of (last_chord (protein_of s h) u) ≡ None
   unfolding chord
   coincide two e =
       let p = points_in (protein_of s h) u in

@@ -1,5 +1,6 @@
 -- A cap's normal is finite and not dark where the C-alphas are finite and at most 2 ^ 30 in size, far above check 8's 16384: the sizes of what it is computed from.
 -- Assumes nothing.
+use Rattle.std.specs.Prelude.{Option, Some, None}
 use mathlib.Core.Path.{◌≡◌, refl, sym, ap, ◌∙◌, subst}
 use mathlib.Core.Logic.{inl, inr}
 use mathlib.Core.Bool.{Bool, true, false, cond, ◌||◌, beq, true≢false, false≢true}
@@ -12,8 +13,6 @@ use lib.Dec.{T, eqb, eqb→eq, lit≤}
 use lib.Ieee.{Float, nan, inf, fin, binary32, up, down, eq, lt, neg, of_bits, of_int, div}
 use lib.Ieee.Fits.{and_l, down_pos}
 use Rattle.vectors.specs.declared.Vec3.{Vec3}
-use Rattle.vectors.specs.declared.Direction.{Direction}
-use Rattle.vectors.specs.declared.Direction.TheVariants.{Along, Nowhere}
 use Rattle.vectors.specs.Vec.{vadd, vsub, vscale, vlength, vzero, vec_at, lit, one, f/, f*, direction_of, normalised}
 use Rattle.vectors.proofs.Directions.{along}
 use Rattle.sizes.proofs.Least.{zero_f, zero_is}
@@ -198,11 +197,11 @@ module _ (p : List Float) (n : ℕ) (N : 2 ≤ n) (h : Within 39 p n) where
   end_within : (g : List Float) → Normal (end_normal p g n)
   end_within g = go (direction_of (chord p n)) refl
     where
-      go : (d : Direction) → direction_of (chord p n) ≡ d → Normal (end_normal p g n)
-      go (Along v) e =
+      go : (d : Option Vec3) → direction_of (chord p n) ≡ d → Normal (end_normal p g n)
+      go (Some v) e =
           let k = along (chord p n) v e in
           subst Normal (sym ((chord_kept p g n v e).0 ∙ k.1)) (scaled (chord p n) (vmore 40 52 (chord p n) (lit≤ tt) chord_real) k.0)
-      go Nowhere e =
+      go None e =
           let s = of4 catmull_rom_tangent (span_of p n (n - 2)) one in
           subst Normal (sym (tangent_taken p g n e ∙ last_tangent_lem p g n)) (directed_normal s (vmore 50 52 s (lit≤ tt) (slope_at (n - 2) one (omega arith) one_real)))
 

@@ -1,7 +1,7 @@
 -- The normal of a tube's end cap, over n spline points p and n guides g.
-use Rattle.std.specs.Prelude.{List, ℕ, ◌-◌, ◌*◌, Float}
+use Rattle.std.specs.Prelude.{List, ℕ, ◌-◌, ◌*◌, Float, unwrap_or}
 use Rattle.vectors.specs.declared.Vec3.{Vec3}
-use Rattle.vectors.specs.Vec.{vsub, vec_at, direction_of, or_else}
+use Rattle.vectors.specs.Vec.{vsub, vec_at, direction_of}
 use Rattle.curve.specs.declared.Frame.{Frame}
 use Rattle.curve.specs.Samples.{frame_at}
 
@@ -11,7 +11,7 @@ chord p n = vsub (vec_at p (n - 1)) (vec_at p (n - 2))
 
 -- 02 §6: where there is no direction, 'an end cap then takes the last sample's tangent', f being that sample's frame
 unfoldable pub end_normal_by : List Float → ℕ → Frame → Vec3
-end_normal_by p n f = or_else (direction_of (chord p n)) f.tangent
+end_normal_by p n f = unwrap_or (direction_of (chord p n)) f.tangent
 
 -- 01: 'There are 8(n-1)+1 samples', so the last is sample 8(n-1)
 unfoldable pub end_normal : List Float → List Float → ℕ → Vec3

@@ -5,7 +5,7 @@ ghost use Rattle.std.specs.Prelude.{◌≡◌, ◌*◌, ◌≤◌, length};
 ghost use Rattle.caps.specs.Caps.{end_normal_by};
 
 use curve::Frame;
-use vectors::{Direction, Vec3, get_vec};
+use vectors::{Vec3, get_vec};
 
 // Where the last two spline points coincide their chord has no direction, and a normal of zero would shade black: `last` is the last sample's frame.
 pub fn end_normal(points: &[f32], n: usize, last: Frame) -> Vec3
@@ -13,11 +13,9 @@ pub fn end_normal(points: &[f32], n: usize, last: Frame) -> Vec3
     ensures { result ≡ end_normal_by points.now n last }
 {
     let tangent = last.tangent;
-    let d = get_vec(points, n - 1)
-        .sub(get_vec(points, n - 2))
-        .direction();
-    match d {
-        Direction::Along(v) => v,
-        Direction::Nowhere => tangent,
+    let chord = get_vec(points, n - 1) - get_vec(points, n - 2);
+    match chord.direction() {
+        Some(v) => v,
+        None => tangent,
     }
 }

@@ -53,10 +53,8 @@ fn corners_in(corners: &[u32], low: u32, span: u32) -> bool
     ensures { result ≡ corners_in low (low + span) corners.now }
 {
     let mut lost = 0u32;
-    let mut i = 0;
-    while i < corners.len() {
+    for i in 0..corners.len() {
         lost += outside(corners[i], low, span);
-        i += 1;
     }
     lost == 0
 }
@@ -71,8 +69,7 @@ fn tubes_fit(c: Counts, triangles: &[u32], tubes: &[u32]) -> bool
     let most = c.triangles;
     let mut vertex = 0;
     let mut triangle = 0;
-    let mut i = 0;
-    while i < k {
+    for i in 0..k {
         if !record_fits(tubes, vertex, triangle, i) {
             return false;
         }
@@ -92,7 +89,6 @@ fn tubes_fit(c: Counts, triangles: &[u32], tubes: &[u32]) -> bool
         }
         vertex = past;
         triangle = end;
-        i += 1;
     }
     if vertex != c.vertices {
         return false;

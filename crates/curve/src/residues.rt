@@ -78,15 +78,9 @@ fn sum(g: &[f32], n: usize) -> Vec3
     requires { 3 * n ≤ length g.now }
     ensures { result ≡ sum_of g.now n }
 {
-    let mut v = Vec3 {
-        x: 0.0,
-        y: 0.0,
-        z: 0.0,
-    };
-    let mut i = 0usize;
-    while i < n {
-        v = v.add(get_vec(g, i));
-        i += 1;
+    let mut v = Vec3::ZERO;
+    for i in 0..n {
+        v = v + get_vec(g, i);
     }
     v
 }
@@ -95,10 +89,8 @@ fn fill(g: &mut [f32], n: usize, v: Vec3)
     requires { length g.old ≡ 3 * n }
     ensures { g.new ≡ same v n }
 {
-    let mut i = 0usize;
-    while i < n {
+    for i in 0..n {
         put_vec(g, 3 * i, v);
-        i += 1;
     }
 }
 
@@ -116,15 +108,9 @@ fn settle(g: &mut [f32], kind: Kind)
     ensures { g.new ≡ settled kind (vectors g.old) g.old }
 {
     match kind {
-        Kind::Coil => {
-            smooth_guides(g, 1);
-        }
-        Kind::Helix => {
-            smooth_guides(g, 3);
-        }
-        Kind::Sheet => {
-            average_guides(g);
-        }
+        Kind::Coil => smooth_guides(g, 1),
+        Kind::Helix => smooth_guides(g, 3),
+        Kind::Sheet => average_guides(g),
     }
 }
 

@@ -15,7 +15,7 @@ fn before(p: &[f32], i: usize, p1: Vec3, p2: Vec3) -> Vec3
     ensures { result ≡ before_of p.now i p1 p2 }
 {
     if i == 0 {
-        return p1.add(p1.sub(p2));
+        return p1 + (p1 - p2);
     }
     get_vec(p, i - 1)
 }
@@ -25,7 +25,7 @@ fn after(p: &[f32], n: usize, i: usize, p1: Vec3, p2: Vec3) -> Vec3
     ensures { result ≡ after_of p.now n i p1 p2 }
 {
     if i + 2 == n {
-        return p2.add(p2.sub(p1));
+        return p2 + (p2 - p1);
     }
     get_vec(p, i + 2)
 }

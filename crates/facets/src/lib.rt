@@ -10,7 +10,7 @@ use vectors::{Vec3, get_vec};
 fn facet_normal(a: Vec3, b: Vec3, c: Vec3) -> Vec3
     ensures { result ≡ facet_normal a b c }
 {
-    b.sub(a).cross(c.sub(a)).normalised()
+    (b - a).cross(c - a).normalised()
 }
 
 // The two bytes that every facet ends with.
@@ -49,13 +49,11 @@ pub fn put_facets(out: &mut [u8], at: usize, positions: &[f32], triangles: &[u32
         (facets_of positions.now triangles.now (length triangles.now / 3)) }
 {
     let n = triangles.len() / 3;
-    let mut i = 0;
-    while i < n {
+    for i in 0..n {
         let a = corner(positions, triangles, 3 * i);
         let b = corner(positions, triangles, 3 * i + 1);
         let c = corner(positions, triangles, 3 * i + 2);
         put_facet(out, at + 50 * i, a, b, c);
-        i += 1;
     }
 }
 
@@ -72,10 +70,8 @@ fn put_blank(out: &mut [u8])
     requires { 80 ≤ length out.old }
     ensures { out.new ≡ put out.old 0 (replicate 80 0) }
 {
-    let mut i = 0;
-    while i < 80 {
+    for i in 0..80 {
         out[i] = 0;
-        i += 1;
     }
 }
 
@@ -104,10 +100,8 @@ pub fn list_facets(file: &[u8], t: usize, corners: &mut [f32], normals: &mut [f3
     ensures { (corners.new ≡ put corners.old 0 (listed_corners file.now t))
         × (normals.new ≡ put normals.old 0 (listed_normals file.now t)) }
 {
-    let mut i = 0;
-    while i < t {
+    for i in 0..t {
         list_corners(file, i, corners);
         list_normal(file, i, normals);
-        i += 1;
     }
 }

@@ -33,11 +33,7 @@ fn spot(b: &[u8], h: Head, a: usize) -> Vec3
     ensures { result ≡ spot_of (place_of b.now h) a }
 {
     if a == 0 {
-        return Vec3 {
-            x: 0.0,
-            y: 0.0,
-            z: 0.0,
-        };
+        return Vec3::ZERO;
     }
     protein::place(b, h, a)
 }
@@ -48,10 +44,8 @@ fn load(b: &[u8], h: Head, atoms: &[u32], course: &mut [f32], at: usize)
     ensures { course.new ≡ put course.old at (spots (place_of b.now h) atoms.now) }
 {
     let n = atoms.len();
-    let mut i = 0usize;
-    while i < n {
+    for i in 0..n {
         put_vec(course, at + 3 * i, spot(b, h, atoms[i] as usize));
-        i += 1;
     }
 }
 

@@ -113,5 +113,5 @@ pub fn place(b: &[u8], h: Head, a: usize) -> Vec3
 pub fn is_long(p: Vec3, q: Vec3) -> bool
     ensures { result ≡ far p q }
 {
-    5.0 < q.sub(p).length()
+    5.0 < (q - p).length()
 }

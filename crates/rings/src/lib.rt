@@ -17,11 +17,9 @@ fn put_eight(out: &mut [f32], at: usize, ps: [Vec3; 8])
     requires { at + 24 ≤ length out.old }
     ensures { out.new ≡ put out.old at (eight ps) }
 {
-    let mut k = 0usize;
-    while k < 8 {
+    for k in 0usize..8 {
         let p = ps[k];
         put_vec(out, at + 3 * k, p);
-        k += 1;
     }
 }
 
@@ -29,10 +27,8 @@ fn put_tags(out: &mut [u32], at: usize, tag: u32)
     requires { at + 8 ≤ length out.old }
     ensures { out.new ≡ put out.old at (replicate 8 tag) }
 {
-    let mut k = 0usize;
-    while k < 8 {
+    for k in 0usize..8 {
         out[at + k] = tag;
-        k += 1;
     }
 }
 
@@ -77,15 +73,13 @@ pub fn put_sides(
         result positions.new normals.new tags.new }
 {
     let mut bounds = b;
-    let mut k = 0usize;
-    while k < 8 {
+    for k in 0usize..8 {
         let s = spokes[k];
         let p = point_on(center, guide, binormal, s);
         put_vec(positions, 3 * (v + k), p);
         bounds = grown(bounds, p);
         put_vec(normals, 3 * (v + k), normal_on(guide, binormal, s));
         tags[v + k] = tag;
-        k += 1;
     }
     bounds
 }

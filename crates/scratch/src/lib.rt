@@ -9,9 +9,7 @@ pub fn clear(t: &mut [u32], from: usize, n: usize)
     requires { from + n ≤ length t.old }
     ensures { Filled (λ r. 0) from n t.old t.new }
 {
-    let mut i = 0;
-    while i < n {
+    for i in 0..n {
         t[from + i] = 0;
-        i += 1;
     }
 }

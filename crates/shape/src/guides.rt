@@ -10,17 +10,9 @@ fn helper(v: Vec3) -> Vec3
     ensures { result ≡ helper v }
 {
     if floats::magnitude_of(v.z) < 0.9 {
-        return Vec3 {
-            x: 0.0,
-            y: 0.0,
-            z: 1.0,
-        };
+        return Vec3::Z_AXIS;
     }
-    Vec3 {
-        x: 0.0,
-        y: 1.0,
-        z: 0.0,
-    }
+    Vec3::Y_AXIS
 }
 
 pub fn fallback_perp(v: Vec3) -> Vec3
@@ -32,7 +24,7 @@ pub fn fallback_perp(v: Vec3) -> Vec3
 fn across(v: Vec3, tangent: Vec3) -> Vec3
     ensures { result ≡ across v tangent }
 {
-    v.sub(tangent.scale(v.dot(tangent)))
+    v - tangent.scale(v.dot(tangent))
 }
 
 // The part of v across the tangent, as a unit vector, or the fallback where that is shorter than a limit.
@@ -51,7 +43,7 @@ pub fn upright(v: Vec3, tangent: Vec3, limit: f32) -> Vec3
 fn compute_guide(ca: Vec3, o: Vec3, tangent: Vec3) -> Vec3
     ensures { result ≡ compute_guide ca o tangent }
 {
-    upright(o.sub(ca).normalised(), tangent, 1e-6)
+    upright((o - ca).normalised(), tangent, 1e-6)
 }
 
 pub fn raw_guide(ca: Vec3, o: Oxygen, tangent: Vec3) -> Vec3
@@ -68,11 +60,7 @@ fn or_up(v: Vec3) -> Vec3
     ensures { result ≡ or_up v }
 {
     if v.length() < 1e-8 {
-        return Vec3 {
-            x: 0.0,
-            y: 1.0,
-            z: 0.0,
-        };
+        return Vec3::Y_AXIS;
     }
     v
 }
@@ -81,7 +69,7 @@ fn or_up(v: Vec3) -> Vec3
 pub fn tangent_of(before: Vec3, after: Vec3) -> Vec3
     ensures { result ≡ tangent_of before after }
 {
-    or_up(after.sub(before).normalised())
+    or_up((after - before).normalised())
 }
 
 // A sample's tangent, from the spline's derivative.
@@ -90,11 +78,7 @@ pub fn directed(v: Vec3) -> Vec3
 {
     let l = v.length();
     if l < 1e-8 {
-        return Vec3 {
-            x: 0.0,
-            y: 1.0,
-            z: 0.0,
-        };
+        return Vec3::Y_AXIS;
     }
     v.normalised_by(l)
 }
@@ -111,7 +95,7 @@ pub fn agreeing(before: Vec3, g: Vec3) -> Vec3
 fn weighted(a: Vec3, b: Vec3, c: Vec3) -> Vec3
     ensures { result ≡ weighted a b c }
 {
-    a.add(b.scale(2.0)).add(c)
+    a + b.scale(2.0) + c
 }
 
 pub fn smooth_guide(a: Vec3, b: Vec3, c: Vec3) -> Vec3
@@ -134,5 +118,5 @@ pub fn smooth_position(a: Vec3, b: Vec3, c: Vec3) -> Vec3
 pub fn between(a: Vec3, b: Vec3, t: f32) -> Vec3
     ensures { result ≡ between a b t }
 {
-    a.add(b.sub(a).scale(t))
+    a + (b - a).scale(t)
 }

@@ -14,6 +14,7 @@ pub enum Kind {
     Sheet,
 }
 
+// An Option of a vector in shape, but 01 names this form: 'Enum with case At of three f32 and case Missing'.
 #[derive(Drop)]
 pub enum Oxygen {
     At(f32, f32, f32),

@@ -133,10 +133,8 @@ pub fn spokes(p: Profile) -> [Spoke; 8]
     ensures { result ≡ spokes_of p }
 {
     let mut out = [spoke(p, 0); 8];
-    let mut k = 0usize;
-    while k < 8 {
+    for k in 0usize..8 {
         out[k] = spoke(p, k);
-        k += 1;
     }
     out
 }
@@ -144,34 +142,25 @@ pub fn spokes(p: Profile) -> [Spoke; 8]
 pub fn point_on(center: Vec3, guide: Vec3, binormal: Vec3, s: Spoke) -> Vec3
     ensures { result ≡ point_on center guide binormal s }
 {
-    center
-        .add(binormal.scale(s.width))
-        .add(guide.scale(s.height))
+    center + binormal.scale(s.width) + guide.scale(s.height)
 }
 
 pub fn normal_on(guide: Vec3, binormal: Vec3, s: Spoke) -> Vec3
     ensures { result ≡ normal_on guide binormal s }
 {
-    binormal.scale(s.nx).add(guide.scale(s.ny)).normalised()
+    (binormal.scale(s.nx) + guide.scale(s.ny)).normalised()
 }
 
 // A ring on spokes that are at hand.
 pub fn ring_over(center: Vec3, guide: Vec3, binormal: Vec3, spokes: [Spoke; 8]) -> Ring
     ensures { result ≡ ring_over center guide binormal spokes }
 {
-    let zero = Vec3 {
-        x: 0.0,
-        y: 0.0,
-        z: 0.0,
-    };
-    let mut positions = [zero; 8];
-    let mut normals = [zero; 8];
-    let mut k = 0usize;
-    while k < 8 {
+    let mut positions = [Vec3::ZERO; 8];
+    let mut normals = [Vec3::ZERO; 8];
+    for k in 0usize..8 {
         let s = spokes[k];
         positions[k] = point_on(center, guide, binormal, s);
         normals[k] = normal_on(guide, binormal, s);
-        k += 1;
     }
     Ring { positions, normals }
 }

@@ -8,19 +8,13 @@ use vectors::Vec3;
 fn bend(p: [Vec3; 4]) -> Vec3
     ensures { result ≡ of4 bend p }
 {
-    p[0].scale(2.0)
-        .sub(p[1].scale(5.0))
-        .add(p[2].scale(4.0))
-        .sub(p[3])
+    p[0].scale(2.0) - p[1].scale(5.0) + p[2].scale(4.0) - p[3]
 }
 
 fn twist(p: [Vec3; 4]) -> Vec3
     ensures { result ≡ of4 twist p }
 {
-    p[0].scale(-1.0)
-        .add(p[1].scale(3.0))
-        .sub(p[2].scale(3.0))
-        .add(p[3])
+    p[0].scale(-1.0) + p[1].scale(3.0) - p[2].scale(3.0) + p[3]
 }
 
 // Twice the spline at t: whoever calls it halves.
@@ -33,7 +27,7 @@ pub fn catmull_rom(p: [Vec3; 4], t: f32) -> Vec3
     let t2 = t * t;
     let b = bend(p).scale(t2);
     let c = twist(p).scale(t2 * t);
-    p1.scale(2.0).add(p2.sub(p0).scale(t)).add(b).add(c)
+    p1.scale(2.0) + (p2 - p0).scale(t) + b + c
 }
 
 // The derivative of that doubled curve at t.
@@ -45,5 +39,5 @@ pub fn catmull_rom_tangent(p: [Vec3; 4], t: f32) -> Vec3
     let t2 = t * t;
     let b = bend(p).scale(2.0 * t);
     let c = twist(p).scale(3.0 * t2);
-    p2.sub(p0).add(b).add(c)
+    p2 - p0 + b + c
 }

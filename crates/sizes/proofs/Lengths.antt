@@ -1,5 +1,6 @@
 -- Lengths: the root of a finite f32 above 0 lies from 2 ^ -75 to 2 ^ 65; so a vector whose computed length is neither 0 nor infinite has, over that length, a component of
 -- 2 ^ -140 at least. Nothing is asked of its components: they may be subnormal, huge or NaN. Assumes nothing.
+use Rattle.std.specs.Prelude.{Some}
 use mathlib.Core.Path.{◌≡◌, refl, sym, ap, ◌∙◌, subst}
 use mathlib.Core.Logic.{◌⊎◌, inl, inr, ⊎_elim}
 use Prim.Native.Nat.{ℕ, zero, suc, ◌+◌, ◌-◌, ◌*◌, ◌%◌, ◌^◌, ◌≤◌, ◌<◌, zero-le}
@@ -18,7 +19,7 @@ use Rattle.floats.proofs.Squares.{sq_lt}
 use Rattle.floats.specs.Nearest.{IsNearest}
 use Rattle.floats.proofs.NearestRoot.{root_is_nearest}
 use Rattle.vectors.specs.declared.Vec3.{Vec3}
-use Rattle.vectors.specs.declared.Direction.TheVariants.{Along}
+use Rattle.vectors.specs.declared.Option Vec3.TheVariants.{Some}
 use Rattle.vectors.specs.Vec.{vec, vscale, vdot, vlength, vzero, lit, one, f/, f*, f+, direction_of}
 use Rattle.sizes.proofs.Least.{zero_f, zero_is, Least, least_lit, Most, one_is, mul_least, over_least, faint, not_faint, faint_square}
 
@@ -187,6 +188,6 @@ scaled_shines a h n = go (faint a.x) (faint a.y) (faint a.z) refl refl refl
     go true true true b c d = absurd (true≢false (sym zero_dark ∙ sym (ap (λ (u : Float). eq u (lit 0)) (faint_length a b c d)) ∙ h))
 
 -- that it be no infinity is needed: (2 ^ 65, 0, 0) has a length of infinity, and 1 over it is 0
-pub bound_needed : direction_of (vec (lit 0x60000000) (lit 0) (lit 0)) ≡ Along vzero
+pub bound_needed : direction_of (vec (lit 0x60000000) (lit 0) (lit 0)) ≡ Some vzero
 unfolding direction_of vlength vdot vscale root add mul div eq of_bits
 bound_needed = refl

@@ -1,5 +1,6 @@
 -- Sizes from above, by powers of two: what is at most 2 ^ j in size rounds to at most 2 ^ j, so a sum is one power more, and a product has the sum of the two. So a vector
 -- whose components are finite and not too large has a length that is no infinity, and a direction whose components are finite. Assumes nothing.
+use Rattle.std.specs.Prelude.{None}
 use mathlib.Core.Path.{◌≡◌, refl, sym, ap, ◌∙◌, subst}
 use Prim.Native.Nat.{ℕ, zero, suc, ◌+◌, ◌-◌, ◌*◌, ◌/◌, ◌%◌, ◌^◌, ◌≤◌, ◌<◌}
 use native.Mathlib.Nat.{two-pow-succ, le_refl, le_trans, le_of_eq, lt_of_lt_of_le, lt_of_le_of_lt, lt_irrefl, zero-mul, one-mul, mul-one, mul-pos, mul_comm, mul_assoc, mul_right_comm, mul-mul-mul_comm, mul-le-mul, mul-le-mul_right, le_of_mul-le-mul_right, div-lt_iff_lt-mul, div-one, add-mul, mul-lt-mul_of_pos_right}
@@ -18,7 +19,7 @@ use lib.Ieee.Positive.{first_pos}
 use Rattle.floats.specs.Floats.{root}
 use Rattle.floats.proofs.Closest.{closest_down}
 use Rattle.vectors.specs.declared.Vec3.{Vec3}
-use Rattle.vectors.specs.declared.Direction.TheVariants.{Nowhere}
+use Rattle.vectors.specs.declared.Option Vec3.TheVariants.{None}
 use Rattle.vectors.proofs.Directions.{nowhere}
 use Rattle.vectors.specs.Vec.{direction_of, vadd, vsub, vscale, vdot, vlength, lit, one, f+, f*, f/}
 use Rattle.sizes.proofs.Least.{split, Least, NotZero, one_f, one_is, zero_is, value_least, faint, sub_self}
@@ -276,7 +277,7 @@ scaled_real a (p, q, r) h =
     vscale_real 52 75 a (f/ one (root binary32 s)) (lit≤ tt) (p, q, r) (subst (λ (u : Float). Real 75 (f/ u (root binary32 s))) (sym one_is) (over_real (root binary32 s) z.0 z.1))
 
 -- ---- a vector of finite components less itself points nowhere
-pub self_nowhere : (k : ℕ) (v : Vec3) → Real3 k v → direction_of (vsub v v) ≡ Nowhere
+pub self_nowhere : (k : ℕ) (v : Vec3) → Real3 k v → direction_of (vsub v v) ≡ None
 unfolding vsub
 self_nowhere k v (a, b, c) = (nowhere (vsub v v)).1 (ap (λ (l : Float). eq l (lit 0)) (faint_length (vsub v v) (gone v.x a) (gone v.y b) (gone v.z c)) ∙ zero_dark)
   where

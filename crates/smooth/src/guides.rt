@@ -12,14 +12,12 @@ fn guide_pass(list: &mut [f32], n: usize)
     ensures { list.new ≡ guide_pass n list.old }
 {
     let mut prev = get_vec(list, 0);
-    let mut i = 0usize;
-    while i < n {
+    for i in 0..n {
         let here = get_vec(list, i);
         let next = get_vec(list, after(n, i));
         let smoothed = smooth_guide(prev, here, next);
         put_vec(list, 3 * i, smoothed);
         prev = here;
-        i += 1;
     }
 }
 
@@ -28,9 +26,7 @@ pub fn smooth_guides(list: &mut [f32], passes: usize)
     ensures { list.new ≡ smooth_guides passes (vectors list.old) list.old }
 {
     let n = list.len() / 3;
-    let mut k = 0usize;
-    while k < passes {
+    for k in 0..passes {
         guide_pass(list, n);
-        k += 1;
     }
 }

@@ -27,9 +27,7 @@ pub fn smooth_positions(list: &mut [f32], passes: usize)
     ensures { list.new ≡ smooth_positions passes (vectors list.old) list.old }
 {
     let n = list.len() / 3;
-    let mut k = 0usize;
-    while k < passes {
+    for k in 0..passes {
         position_pass(list, n);
-        k += 1;
     }
 }

@@ -36,12 +36,10 @@ fn emit_cap(triangles: &mut [u32], at: usize, center: u32, base: u32, inward: bo
     requires base_bound { base + 8 < 4294967296 }
     ensures { triangles.new ≡ put triangles.old at (cap 8 inward center base) }
 {
-    let mut k: u32 = 0;
     let mut place = at;
-    while k < 8 {
+    for k in 0u32..8 {
         cap_side(triangles, place, center, base, k, inward);
         place += 3;
-        k += 1;
     }
 }
 
@@ -52,9 +50,8 @@ fn append_ring_and_stitch(triangles: &mut [u32], at: usize, a: u32, b: u32)
     requires a_bound { (a + 8 < 4294967296) × (b + 8 < 4294967296) }
     ensures { triangles.new ≡ put triangles.old at (band 8 a b) }
 {
-    let mut k: u32 = 0;
     let mut place = at;
-    while k < 8 {
+    for k in 0u32..8 {
         let k1 = (k + 1) % 8;
         let a0 = a + k;
         let a1 = a + k1;
@@ -63,7 +60,6 @@ fn append_ring_and_stitch(triangles: &mut [u32], at: usize, a: u32, b: u32)
         put_corners(triangles, place, a0, b1, b0);
         put_corners(triangles, place + 3, a0, a1, b1);
         place += 6;
-        k += 1;
     }
 }
 
@@ -76,16 +72,14 @@ pub fn tube_triangles(triangles: &mut [u32], at: usize, first: u32, n: u32)
 {
     let bands = 8 * (n - 1);
     emit_cap(triangles, at, first + 8, first, true);
-    let mut j: u32 = 0;
     let mut place = at + 24;
     let mut a = first;
     let mut b = first + 9;
-    while j < bands {
+    for j in 0..bands {
         append_ring_and_stitch(triangles, place, a, b);
         place += 48;
         a = b;
         b += 8;
-        j += 1;
     }
     emit_cap(triangles, place, b, a, false);
 }

@@ -1,12 +1,10 @@
 -- Vectors of three f32, and flat lists of them. 01: 'Every operation is f32 and rounds once, in the order the Rust writes it'
-use Rattle.std.specs.Prelude.{cond, List, [], ◌∷◌, ℕ, ◌+◌, ◌*◌, get_or, Float}
+use Rattle.std.specs.Prelude.{cond, List, [], ◌∷◌, ℕ, ◌+◌, ◌*◌, get_or, Float, Option, Some, None}
 use Rattle.std.specs.Float.{nan, binary32}
 use Rattle.std.specs.Float.Ieee.{of_bits, add, sub, mul, div, eq}
 use Rattle.floats.specs.Floats.{root}
 use Rattle.lists.specs.Put.{upto}
 use Rattle.vectors.specs.declared.Vec3.{Vec3}
-use Rattle.vectors.specs.declared.Direction.{Direction}
-use Rattle.vectors.specs.declared.Direction.TheVariants.{Along, Nowhere}
 
 abbrev pub f+ : Float → Float → Float
 f+ a b = add binary32 a b
@@ -62,16 +60,11 @@ unfoldable pub vlength : Vec3 → Float
 vlength a = root binary32 (vdot a a)
 
 -- 02 §6: 'Normalising a vector of length 0 must say that there is no direction', for the length l as it is computed, so that squares that vanish count
-abbrev pub direction_by : Vec3 → Float → Direction
-direction_by a l = cond (eq l (lit 0)) Nowhere (Along (vscale a (f/ one l)))
+abbrev pub direction_by : Vec3 → Float → Option Vec3
+direction_by a l = cond (eq l (lit 0)) None (Some (vscale a (f/ one l)))
 
-unfoldable pub direction_of : Vec3 → Direction
+unfoldable pub direction_of : Vec3 → Option Vec3
 direction_of a = direction_by a (vlength a)
-
--- a direction, or v where there is none
-abbrev pub or_else : Direction → Vec3 → Vec3
-or_else (Along w) v = w
-or_else Nowhere v = v
 
 -- 01: 'Normalising: components times (1 / length); length 0 gives the zero vector', for the length l. 02 §6: 'every other user answers as now'
 abbrev pub normalised_by : Vec3 → Float → Vec3

@@ -5,6 +5,8 @@ ghost use Rattle.std.specs.Prelude.{◌≡◌, ◌+◌, ◌*◌, ◌≤◌, leng
 ghost use Rattle.vectors.specs.Vec.{vadd, vsub, vscale, vdot, vcross, vlength, direction_by, direction_of, normalised_by, normalised, floats, vec_at};
 ghost use Rattle.lists.specs.Put.{put};
 
+use std::ops::{Add, Sub};
+
 #[derive(Clone, Copy)]
 pub struct Vec3 {
     pub x: f32,
@@ -12,33 +14,24 @@ pub struct Vec3 {
     pub z: f32,
 }
 
-// Where a vector points: nowhere, where its length is 0.
-#[derive(Drop)]
-pub enum Direction {
-    Along(Vec3),
-    Nowhere,
-}
-
 impl Vec3 {
-    pub fn add(self, b: Vec3) -> Vec3
-        ensures { result ≡ vadd self b }
-    {
-        Vec3 {
-            x: self.x + b.x,
-            y: self.y + b.y,
-            z: self.z + b.z,
-        }
-    }
+    pub const ZERO: Vec3 = Vec3 {
+        x: 0.0,
+        y: 0.0,
+        z: 0.0,
+    };
 
-    pub fn sub(self, b: Vec3) -> Vec3
-        ensures { result ≡ vsub self b }
-    {
-        Vec3 {
-            x: self.x - b.x,
-            y: self.y - b.y,
-            z: self.z - b.z,
-        }
-    }
+    pub const Y_AXIS: Vec3 = Vec3 {
+        x: 0.0,
+        y: 1.0,
+        z: 0.0,
+    };
+
+    pub const Z_AXIS: Vec3 = Vec3 {
+        x: 0.0,
+        y: 0.0,
+        z: 1.0,
+    };
 
     pub fn scale(self, k: f32) -> Vec3
         ensures { result ≡ vscale self k }
@@ -72,20 +65,21 @@ impl Vec3 {
         floats::root::square_root(self.dot(self))
     }
 
-    pub fn direction(self) -> Direction
+    // Where the vector points: none where its length is 0.
+    pub fn direction(self) -> Option<Vec3>
         ensures { result ≡ direction_of self }
     {
         self.direction_by(self.length())
     }
 
     // The same, where the length is at hand. Nothing else normalises: whoever needs a direction sees that there may be none.
-    pub fn direction_by(self, l: f32) -> Direction
+    pub fn direction_by(self, l: f32) -> Option<Vec3>
         ensures { result ≡ direction_by self l }
     {
         if l == 0.0 {
-            return Direction::Nowhere;
+            return None;
         }
-        Direction::Along(self.scale(1.0 / l))
+        Some(self.scale(1.0 / l))
     }
 
     // The direction, and the zero vector where there is none: the Rust's answer, which all but an end cap take.
@@ -99,14 +93,34 @@ impl Vec3 {
     pub fn normalised_by(self, l: f32) -> Vec3
         ensures { result ≡ normalised_by self l }
     {
-        let d = self.direction_by(l);
-        match d {
-            Direction::Along(v) => v,
-            Direction::Nowhere => Vec3 {
-                x: 0.0,
-                y: 0.0,
-                z: 0.0,
-            },
+        self.direction_by(l).unwrap_or(Vec3::ZERO)
+    }
+}
+
+impl Add for Vec3 {
+    type Output = Vec3;
+
+    ghost add_gives = { λ a b r. r ≡ vadd a b };
+
+    fn add(self, b: Vec3) -> Vec3 {
+        Vec3 {
+            x: self.x + b.x,
+            y: self.y + b.y,
+            z: self.z + b.z,
+        }
+    }
+}
+
+impl Sub for Vec3 {
+    type Output = Vec3;
+
+    ghost sub_gives = { λ a b r. r ≡ vsub a b };
+
+    fn sub(self, b: Vec3) -> Vec3 {
+        Vec3 {
+            x: self.x - b.x,
+            y: self.y - b.y,
+            z: self.z - b.z,
         }
     }
 }

@@ -8,6 +8,3 @@ use Rattle.boxes.proofs.over_eight.Given as goal
 
 abbrev pub invariant-loop-k : goal.invariant-loop-k
 invariant-loop-k l = (l.bounds ≡ grown_by l.initial.bounds (upto (λ (j : ℕ). floats (get_or l.ps j vpast)) l.k)) × (l.k ≤ 8)
-
-abbrev pub decreases-loop-k : goal.decreases-loop-k
-decreases-loop-k l = 8 - l.k

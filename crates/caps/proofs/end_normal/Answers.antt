@@ -1,10 +1,10 @@
 use Rattle.caps.specs.Caps.{chord, end_normal_by}
 use Rattle.caps.proofs.end_normal.Goals as goal
 
-pub returns-in-Along : goal.returns-in-Along
+pub returns-in-Some : goal.returns-in-Some
 unfolding end_normal_by chord
-returns-in-Along c = rw (← (rw (c.sub.ensures, c.get_vec-2.ensures, c.get_vec.ensures) at c.direction-d.ensures), c.in-Along.is)
+returns-in-Some c = rw (← (rw (c.sub.ensures, c.get_vec-2.ensures, c.get_vec.ensures) at c.direction.ensures), c.in-Some.is)
 
-pub returns-in-Nowhere : goal.returns-in-Nowhere
+pub returns-in-None : goal.returns-in-None
 unfolding end_normal_by chord
-returns-in-Nowhere c = rw (← (rw (c.sub.ensures, c.get_vec-2.ensures, c.get_vec.ensures) at c.direction-d.ensures), c.in-Nowhere.is)
+returns-in-None c = rw (← (rw (c.sub.ensures, c.get_vec-2.ensures, c.get_vec.ensures) at c.direction.ensures), c.in-None.is)

@@ -10,6 +10,3 @@ use Rattle.consistency.proofs.corners_in.Given as goal
 
 abbrev pub invariant-loop-i : goal.invariant-loop-i
 invariant-loop-i l = (l.i ≤ length l.corners) × (every (between l.low (l.low + l.span) l.corners) l.i ≡ eqb l.lost 0) × (l.lost ≤ l.i)
-
-abbrev pub decreases-loop-i : goal.decreases-loop-i
-decreases-loop-i l = length l.corners - l.i

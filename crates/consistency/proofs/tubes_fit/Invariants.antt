@@ -13,6 +13,3 @@ use Rattle.consistency.proofs.tubes_fit.Given as goal
 
 abbrev pub invariant-loop-i : goal.invariant-loop-i
 invariant-loop-i l = Reached l.tubes l.triangles l.c l.vertex l.triangle l.i
-
-abbrev pub decreases-loop-i : goal.decreases-loop-i
-decreases-loop-i l = l.c.tubes - l.i

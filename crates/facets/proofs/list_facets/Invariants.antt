@@ -10,6 +10,3 @@ use Rattle.facets.proofs.list_facets.Given as goal
 
 abbrev pub invariant-loop-i : goal.invariant-loop-i
 invariant-loop-i l = (l.i ≤ l.t) × (l.corners ≡ put l.initial.corners 0 (listed_corners l.file l.i)) × (l.normals ≡ put l.initial.normals 0 (listed_normals l.file l.i))
-
-abbrev pub decreases-loop-i : goal.decreases-loop-i
-decreases-loop-i l = l.t - l.i

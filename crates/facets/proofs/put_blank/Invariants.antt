@@ -9,6 +9,3 @@ use Rattle.facets.proofs.put_blank.Given as goal
 
 abbrev pub invariant-loop-i : goal.invariant-loop-i
 invariant-loop-i l = (l.i ≤ 80) × (l.out ≡ put l.initial.out 0 (upto (λ (j : ℕ). 0 ∷ []) l.i))
-
-abbrev pub decreases-loop-i : goal.decreases-loop-i
-decreases-loop-i l = 80 - l.i

@@ -13,6 +13,3 @@ use Rattle.facets.proofs.put_facets.Given as goal
 
 abbrev pub invariant-loop-i : goal.invariant-loop-i
 invariant-loop-i l = (l.i ≤ l.n) × (l.n ≡ length l.triangles / 3) × (l.out ≡ put l.initial.out l.at (facets_of l.positions l.triangles l.i))
-
-abbrev pub decreases-loop-i : goal.decreases-loop-i
-decreases-loop-i l = l.n - l.i

@@ -9,6 +9,3 @@ use Rattle.mesh.proofs.load.Given as goal
 
 abbrev pub invariant-loop-i : goal.invariant-loop-i
 invariant-loop-i l = (l.i ≤ l.n) × (l.course ≡ put l.initial.course l.at (floats_of (λ (k : ℕ). spot_of (place_of l.b l.h) (get_or l.atoms k 0)) l.i))
-
-abbrev pub decreases-loop-i : goal.decreases-loop-i
-decreases-loop-i l = l.n - l.i

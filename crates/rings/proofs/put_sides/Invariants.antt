@@ -9,6 +9,3 @@ use Rattle.rings.proofs.put_sides.Given as goal
 
 abbrev pub invariant-loop-k : goal.invariant-loop-k
 invariant-loop-k l = (l.k ≤ 8) × Wrote l.initial.bounds l.initial.positions l.initial.normals l.initial.tags l.v (upto (λ (j : ℕ). floats (point_on l.center l.guide l.binormal (get_or l.spokes j spoke_past))) l.k) (upto (λ (j : ℕ). floats (normal_on l.guide l.binormal (get_or l.spokes j spoke_past))) l.k) (upto (λ (j : ℕ). l.tag ∷ []) l.k) l.bounds l.positions l.normals l.tags
-
-abbrev pub decreases-loop-k : goal.decreases-loop-k
-decreases-loop-k l = 8 - l.k

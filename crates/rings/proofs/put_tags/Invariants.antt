@@ -6,6 +6,3 @@ use Rattle.rings.proofs.put_tags.Given as goal
 
 abbrev pub invariant-loop-k : goal.invariant-loop-k
 invariant-loop-k l = (l.k ≤ 8) × (l.out ≡ put l.initial.out l.at (upto (λ (j : ℕ). l.tag ∷ []) l.k))
-
-abbrev pub decreases-loop-k : goal.decreases-loop-k
-decreases-loop-k l = 8 - l.k

@@ -40,12 +40,6 @@ put_corners-requires-in-loop-k c = omega (arith, kept _ _ _ c.put_corners.ensure
 pub overflow_add-place-in-loop-k : goal.overflow_add-place-in-loop-k
 overflow_add-place-in-loop-k c = omega (arith, kept _ _ _ c.loop-k.invariant.2)
 
-pub overflow_add-k : goal.overflow_add-k
-overflow_add-k c = omega arith
-
-pub loop-k-smaller : goal.loop-k-smaller
-loop-k-smaller c = omega arith
-
 pub loop-k-preserved : goal.loop-k-preserved
 unfolding tube.next
 loop-k-preserved c = let loop = c.loop-k in

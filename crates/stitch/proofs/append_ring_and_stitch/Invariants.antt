@@ -7,6 +7,3 @@ use Rattle.stitch.proofs.append_ring_and_stitch.Given as goal
 
 abbrev pub invariant-loop-k : goal.invariant-loop-k
 invariant-loop-k l = (l.k ≤ 8) × (l.place ≡ l.at + l.k * 6) × (l.triangles ≡ put l.initial.triangles l.at (upto (band_side 8 l.a l.b) l.k))
-
-abbrev pub decreases-loop-k : goal.decreases-loop-k
-decreases-loop-k l = 8 - l.k

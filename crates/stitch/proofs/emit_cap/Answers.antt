@@ -19,12 +19,6 @@ cap_side-requires c = record { at_in_bounds = omega (arith, kept _ _ _ c.loop-k.
 pub overflow_add-place : goal.overflow_add-place
 overflow_add-place c = omega (arith, kept _ _ _ c.loop-k.invariant.2)
 
-pub overflow_add-k : goal.overflow_add-k
-overflow_add-k c = omega arith
-
-pub loop-k-smaller : goal.loop-k-smaller
-loop-k-smaller c = omega arith
-
 pub loop-k-preserved : goal.loop-k-preserved
 loop-k-preserved c = let loop = c.loop-k in
     let args = c.args in (

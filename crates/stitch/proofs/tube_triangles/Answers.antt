@@ -37,9 +37,6 @@ overflow_add-place-in-loop-j c = omega (arith, kept _ _ _ c.loop-j.invariant.6, 
 pub overflow_add-b-in-loop-j : goal.overflow_add-b-in-loop-j
 overflow_add-b-in-loop-j c = omega (arith, vertex_count_lem c.args.n c.requires.le_n.0)
 
-pub overflow_add-j : goal.overflow_add-j
-overflow_add-j c = omega (arith, vertex_count_lem c.args.n c.requires.le_n.0)
-
 pub loop-j-preserved : goal.loop-j-preserved
 unfolding ring
 loop-j-preserved c = let loop = c.loop-j in

@@ -6,6 +6,3 @@ use Rattle.curve.proofs.residues.fill.Given as goal
 
 abbrev pub invariant-loop-i : goal.invariant-loop-i
 invariant-loop-i l = (l.i ≤ l.n) × (l.g ≡ put l.initial.g 0 (floats_of (λ (j : ℕ). l.v) l.i))
-
-abbrev pub decreases-loop-i : goal.decreases-loop-i
-decreases-loop-i l = l.n - l.i

@@ -7,6 +7,3 @@ use Rattle.shape.proofs.section.spokes.Given as goal
 
 abbrev pub invariant-loop-k : goal.invariant-loop-k
 invariant-loop-k l = (l.k ≤ 8) × (l.out ≡ put l.initial.out 0 (upto (λ (j : ℕ). spoke_at l.p j ∷ []) l.k))
-
-abbrev pub decreases-loop-k : goal.decreases-loop-k
-decreases-loop-k l = 8 - l.k

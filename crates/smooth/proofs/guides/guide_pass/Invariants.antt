@@ -5,6 +5,3 @@ use Rattle.smooth.proofs.guides.guide_pass.Given as goal
 
 abbrev pub invariant-loop-i : goal.invariant-loop-i
 invariant-loop-i l = (l.i ≤ l.n) × Turned smooth_guide l.n 0 l.i l.initial.list l.list l.prev
-
-abbrev pub decreases-loop-i : goal.decreases-loop-i
-decreases-loop-i l = l.n - l.i

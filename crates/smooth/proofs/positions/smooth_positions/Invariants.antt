@@ -5,6 +5,3 @@ use Rattle.smooth.proofs.positions.smooth_positions.Given as goal
 
 abbrev pub invariant-loop-k : goal.invariant-loop-k
 invariant-loop-k l = (l.k ≤ l.passes) × Passed (position_pass l.n) l.n l.k l.initial.list l.list
-
-abbrev pub decreases-loop-k : goal.decreases-loop-k
-decreases-loop-k l = l.passes - l.k

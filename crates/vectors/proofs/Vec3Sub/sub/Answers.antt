@@ -1,6 +1,6 @@
 use mathlib.Core.Path.{refl}
 use Rattle.vectors.specs.Vec.{vsub}
-use Rattle.vectors.proofs.Vec3.sub.Goals as goal
+use Rattle.vectors.proofs.Vec3Sub.sub.Goals as goal
 
 pub returns : goal.returns
 unfolding vsub

@@ -1,6 +1,6 @@
 use mathlib.Core.Path.{refl}
 use Rattle.vectors.specs.Vec.{vadd}
-use Rattle.vectors.proofs.Vec3.add.Goals as goal
+use Rattle.vectors.proofs.Vec3Add.add.Goals as goal
 
 pub returns : goal.returns
 unfolding vadd
