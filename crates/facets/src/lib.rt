@@ -70,9 +70,7 @@ fn put_blank(out: &mut [u8])
     requires { 80 ≤ length out.old }
     ensures { out.new ≡ put out.old 0 (replicate 80 0) }
 {
-    for i in 0..80 {
-        out[i] = 0;
-    }
+    out[..80].fill(0);
 }
 
 // The nine floats of a facet's corners.

@@ -6,8 +6,8 @@ use Prim.Native.Nat.{ℕ, zero, suc, ◌+◌, ◌*◌, ◌≤◌, ◌<◌}
 use native.Mathlib.Nat.{add-zero, zero-add, add-suc, suc-add, suc-mul, not-suc-le-zero, eq-or-lt_of_le, le_of_suc-le-suc, lt_of_lt_of_le, mul-le-mul_right}
 use native.Mathlib.Numerals.{add-one}
 use native.Mathlib.Omega.{arith}
-use lib.ListN.{length, take, drop, set, get_or, length-append, length-set, replicate, drop_of_length-le, get_or-append}
-use lib.Seq.{sets, sets-eq, get_or-set_other, get_or-set_same, get_or-append-add, length-take-le, set_comm, take-append_seam, take-set-le, take-suc, take-length, drop_at}
+use lib.ListN.{length, take, drop, set, get_or, length-append, length-set, length-drop, length-replicate, replicate, drop_of_length-le, get_or-append}
+use lib.Seq.{sets, sets-eq, get_or-set_other, get_or-set_same, get_or-append-add, length-take-le, set_comm, take-append_seam, take-set-le, take-suc, take-length, drop_at, drop-drop}
 use Rattle.lists.specs.Put.{put, upto}
 
 module _ {ℓ} {A : Type ℓ} where
@@ -161,6 +161,22 @@ put_tail l xs a e h =
 -- what fills the whole list is the list
 pub put_all : {A : Type 0} (l xs : List A) {b : List A} → b ≡ put l 0 xs → length l ≡ length xs → b ≡ xs
 put_all l xs e h = put_tail l xs 0 e (h ∙ sym (zero-add (length xs)))
+
+-- the part of k places from i on that a call was lent, and filled with xs: the buffer it is a part of
+pub put_part : {A : Type 0} (l xs : List A) (i k : ℕ) {ys : List A} → ys ≡ xs → k ≡ length xs → i + length xs ≤ length l
+    → take i l ++ (ys ++ drop k (drop i l)) ≡ put l i xs
+put_part l xs i k {ys} e n h =
+    ap (λ (y : List _). take i l ++ (y ++ drop k (drop i l))) e
+    ∙ ap (λ (r : List _). take i l ++ (xs ++ r)) (ap (λ (m : ℕ). drop m (drop i l)) n ∙ drop-drop (length xs) i l)
+    ∙ sym (append_assoc (take i l) xs (drop (i + length xs) l)) ∙ sym (put_eq l i xs h)
+
+-- the same of a part of n places that was filled with one value
+pub filled_part : {A : Type 0} (l : List A) (i k n : ℕ) (x : A) {ys : List A} → ys ≡ replicate (length (take k (drop i l))) x → k ≡ n → i + n ≤ length l
+    → take i l ++ (ys ++ drop k (drop i l)) ≡ put l i (replicate n x)
+filled_part l i k n x e q h =
+    let m : length (take k (drop i l)) ≡ n = length-take-le k (drop i l) (omega (arith, length-drop i l)) ∙ q in
+    let r : n ≡ length (replicate n x) = sym (length-replicate n x) in
+    put_part l (replicate n x) i k (e ∙ ap (λ (j : ℕ). replicate j x) m) (q ∙ r) (omega arith)
 
 -- what stands before the written part is as it was
 pub take_put : {A : Type 0} (k : ℕ) (l : List A) (i : ℕ) (xs : List A) → k ≤ i → take k (put l i xs) ≡ take k l

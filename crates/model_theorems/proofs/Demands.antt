@@ -1,6 +1,7 @@
 -- WHAT A USER OF THE COMMAND `ribbon` MAY RELY ON, as theorems over the promises of read_pdb (`Reads`), build
 -- (`Builds`) and write_stl (`WritesStl`), over what the command writes (`model_bytes` of specs/Model) and over its
 -- large room (`LargeRoom` and `large_job` of specs/Large). Assumes nothing.
+use Rattle.std.specs.Prelude.{Result, ℕ}
 use Prim.Native.Nat.{ℕ, ◌<◌, ◌≤◌}
 use mathlib.Core.List.{List}
 use mathlib.Core.Logic.{◌⊎◌}
@@ -23,7 +24,6 @@ use Rattle.pdb_reader.specs.declared.Read.TheVariants.{Written, NoJob}
 use Rattle.pdb_reader.proofs.Demands.{caused, buffer_passes}
 use Rattle.facets.specs.Facets.{stl_size}
 use Rattle.scaling.specs.Scale.{factor, scaled_mesh}
-use Rattle.stl_writer.specs.declared.Wrote.{Wrote}
 use Rattle.stl_writer.specs.Call.{file_of, WritesStl}
 use Rattle.stl_theorems.specs.Floats.{AllF32}
 use Rattle.stl_theorems.proofs.Demands.{built_consistent}
@@ -41,7 +41,7 @@ pub command_writes : {s : List ℕ} {b b' : Buffers} {c : Counts} (k : Float)
 command_writes k B = model_file 8 8 k _ _ (built_consistent B)
 
 -- so write_stl, given the scaled mesh and 84 + 50T bytes, leaves exactly these bytes there
-pub command_as_library : {s out out' : List ℕ} {b b' : Buffers} {c : Counts} {r : Wrote} (k : Float)
+pub command_as_library : {s out out' : List ℕ} {b b' : Buffers} {c : Counts} {r : Result ℕ Refusal} (k : Float)
     → Builds s b (Mesh c) b' → stl_size c.triangles ≤ length out
     → WritesStl 8 8 (scaled_mesh k b'.outs) c out r out'
     → take (stl_size c.triangles) out' ≡ model_bytes k b'.outs c

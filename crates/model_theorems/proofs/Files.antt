@@ -1,4 +1,6 @@
 -- The head and the blocks of a consistent mesh are its file. Assumes nothing.
+use Rattle.std.specs.Prelude.{Result, ℕ}
+use Rattle.job.specs.declared.Refusal.{Refusal}
 use Prim.Native.Nat.{ℕ, ◌+◌, ◌*◌, ◌/◌, ◌<◌, ◌≤◌}
 use mathlib.Core.Bool.{true}
 use mathlib.Core.List.{List, ◌++◌}
@@ -18,7 +20,6 @@ use Rattle.facets.proofs.Laws.{facets_front}
 use Rattle.blocks.proofs.Laws.{all_blocks}
 use Rattle.scaling.specs.Scale.{factor, scaled, scaled_mesh}
 use Rattle.scaling.proofs.Laws.{scaled_place, scaled_one, same_consistency}
-use Rattle.stl_writer.specs.declared.Wrote.{Wrote}
 use Rattle.stl_writer.specs.Call.{file_of, WritesStl}
 use Rattle.stl_theorems.specs.Floats.{AllF32}
 use Rattle.stl_theorems.proofs.Written.{written}
@@ -56,7 +57,7 @@ module _ (p d : ℕ) (k : Float) (o : Outs) (c : Counts) (e : consistent p d o c
       (corner_below p d o c e) (cut_same k o.positions (3 * c.vertices)))
 
   -- which write_stl writes of the scaled mesh
-  pub model_written : {out out' : List ℕ} {r : Wrote} → stl_size c.triangles ≤ length out → WritesStl p d (scaled_mesh k o) c out r out'
+  pub model_written : {out out' : List ℕ} {r : Result ℕ Refusal} → stl_size c.triangles ≤ length out → WritesStl p d (scaled_mesh k o) c out r out'
       → take (stl_size c.triangles) out' ≡ model_bytes k o c
   model_written h W = (written (same_consistency p d k o c ∙ e) h W).1 ∙ sym model_file
 

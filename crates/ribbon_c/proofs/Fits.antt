@@ -1,5 +1,6 @@
 -- The calls for C: any two results that the promises allow are equal, in the words and in every buffer; a job that was read passes checks 1 to 8; and no
 -- count is cut, where K, V and T of a mesh, of a plan and of refusal 11, a job's size, a file's size and its count of triangles are handed out in words of 32 bits. Assumes nothing.
+use Rattle.std.specs.Prelude.{Err, Ok}
 use Prim.Native.Nat.{ℕ, ◌<◌, ◌≤◌}
 use mathlib.Core.List.{List, [], ◌∷◌}
 use mathlib.Core.Path.{◌≡◌, sym, ap, ◌∙◌}
@@ -18,10 +19,8 @@ use Rattle.mesh.specs.Mesh.{vertex_sum, triangle_sum}
 use Rattle.walk.specs.declared.Five.{Five}
 use Rattle.buffers.specs.declared.Counts.{Counts}
 use Rattle.buffers.specs.Outs.{Outs}
-use Rattle.stl_writer.specs.declared.Wrote.TheVariants.{Stl, NoStl}
 use Rattle.stl_writer.specs.Call.{wrote_numbers, WritesStl}
 use Rattle.stl_writer.proofs.Demands.{write_determined, file_size_below, needed_below as stl-needed-below}
-use Rattle.stl_reader.specs.declared.Listed.TheVariants.{Facets, NoFacets}
 use Rattle.stl_reader.specs.Call.{Lists, listed_numbers, ReadsStl}
 use Rattle.stl_reader.proofs.Demands.{list_determined, count_below, asked_below}
 use Rattle.room.specs.Room.{Scratch, Buffers}
@@ -127,17 +126,17 @@ pub needed_fits : {s out out' : List ℕ} {n : ℕ} → Reads s out (NoJob (NoJo
 needed_fits {n = n} R = rw (word_same n (needed_below R))
 
 -- the size of an STL file, and the one that refusal 18 carries; the count of a file that was listed, and the one that 18 carries
-pub stl_fits : {o : Outs} {c : Counts} {out out' : List ℕ} {n : ℕ} → WritesStl 8 8 o c out (Stl n) out' → words_of (wrote_numbers (Stl n)) ≡ wrote_numbers (Stl n)
+pub stl_fits : {o : Outs} {c : Counts} {out out' : List ℕ} {n : ℕ} → WritesStl 8 8 o c out (Ok n) out' → words_of (wrote_numbers (Ok n)) ≡ wrote_numbers (Ok n)
 stl_fits {n = n} W = rw (word_same n (file_size_below W))
 
-pub stl_needed_fits : {o : Outs} {c : Counts} {out out' : List ℕ} {n : ℕ} → WritesStl 8 8 o c out (NoStl (NoStlRoom n)) out'
-    → words_of (wrote_numbers (NoStl (NoStlRoom n))) ≡ wrote_numbers (NoStl (NoStlRoom n))
+pub stl_needed_fits : {o : Outs} {c : Counts} {out out' : List ℕ} {n : ℕ} → WritesStl 8 8 o c out (Err (NoStlRoom n)) out'
+    → words_of (wrote_numbers (Err (NoStlRoom n))) ≡ wrote_numbers (Err (NoStlRoom n))
 stl_needed_fits {n = n} W = rw (word_same n (stl-needed-below W))
 
-pub listed_fits : {s : List ℕ} {l l' : Lists} {t : ℕ} → ((i : ℕ) → get_or s i 0 < 256) → ReadsStl s l (Facets t) l'
-    → words_of (listed_numbers (Facets t)) ≡ listed_numbers (Facets t)
+pub listed_fits : {s : List ℕ} {l l' : Lists} {t : ℕ} → ((i : ℕ) → get_or s i 0 < 256) → ReadsStl s l (Ok t) l'
+    → words_of (listed_numbers (Ok t)) ≡ listed_numbers (Ok t)
 listed_fits {t = t} b R = rw (word_same t (count_below b R))
 
-pub asked_fits : {s : List ℕ} {l l' : Lists} {t : ℕ} → ((i : ℕ) → get_or s i 0 < 256) → ReadsStl s l (NoFacets (NoStlRoom t)) l'
-    → words_of (listed_numbers (NoFacets (NoStlRoom t))) ≡ listed_numbers (NoFacets (NoStlRoom t))
+pub asked_fits : {s : List ℕ} {l l' : Lists} {t : ℕ} → ((i : ℕ) → get_or s i 0 < 256) → ReadsStl s l (Err (NoStlRoom t)) l'
+    → words_of (listed_numbers (Err (NoStlRoom t))) ≡ listed_numbers (Err (NoStlRoom t))
 asked_fits {t = t} b R = rw (word_same t (asked_below b R))

@@ -1,12 +1,11 @@
 -- The calls for C: an answer is words in a lent array, those of an answer that the call's own promise allows.
-use Rattle.std.specs.Prelude.{ℕ, ◌+◌, ◌%◌, List, [], ◌∷◌, ◌≡◌, get_or}
+use Rattle.std.specs.Prelude.{ℕ, ◌+◌, ◌%◌, List, [], ◌∷◌, ◌≡◌, get_or, Result}
+use Rattle.job.specs.declared.Refusal.{Refusal}
 use Rattle.pdb_reader.specs.declared.Read.{Read}
 use Rattle.pdb_reader.specs.Call.{read_numbers, Reads}
 use Rattle.buffers.specs.declared.Counts.{Counts}
 use Rattle.buffers.specs.Outs.{Outs}
-use Rattle.stl_writer.specs.declared.Wrote.{Wrote}
 use Rattle.stl_writer.specs.Call.{wrote_numbers, WritesStl}
-use Rattle.stl_reader.specs.declared.Listed.{Listed}
 use Rattle.stl_reader.specs.Call.{Lists, listed_numbers, ReadsStl}
 use Rattle.shares.specs.declared.Share.{Share}
 use Rattle.shares.specs.declared.Shares.{Shares}
@@ -44,13 +43,13 @@ pub record ReadsWords (s out a out' : List ℕ) : Type 0 where
 
 -- ribbon_write_stl, of the mesh buffers o and the counts c, where the lent bytes held out
 pub record WritesStlWords (o : Outs) (c : Counts) (out a out' : List ℕ) : Type 0 where
-  pub answer : Wrote
+  pub answer : Result ℕ Refusal
   pub promise : WritesStl 8 8 o c out answer out'
   pub words : a ≡ words_of (wrote_numbers answer)
 
 -- ribbon_read_stl, of a file's bytes s, where the lent lists held l
 pub record ReadsStlWords (s : List ℕ) (l : Lists) (a : List ℕ) (l' : Lists) : Type 0 where
-  pub answer : Listed
+  pub answer : Result ℕ Refusal
   pub promise : ReadsStl s l answer l'
   pub words : a ≡ words_of (listed_numbers answer)
 

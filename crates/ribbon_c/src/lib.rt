@@ -18,8 +18,6 @@ use job::Refusal;
 use pdb_reader::Read;
 use promises::{Built, Planned};
 use shares::{Share, Shares};
-use stl_reader::Listed;
-use stl_writer::Wrote;
 
 fn word(n: usize) -> u32
     ensures { result ≡ word_of n }
@@ -74,21 +72,21 @@ fn read_words(a: Read) -> [u32; 4]
     }
 }
 
-fn wrote_words(a: Wrote) -> [u32; 4]
+fn wrote_words(a: Result<usize, Refusal>) -> [u32; 4]
     ensures { result ≡ words_of (wrote_numbers a) }
 {
     match a {
-        Wrote::Stl(n) => [0, word(n), 0, 0],
-        Wrote::NoStl(r) => refusal_words(r),
+        Ok(n) => [0, word(n), 0, 0],
+        Err(r) => refusal_words(r),
     }
 }
 
-fn listed_words(a: Listed) -> [u32; 4]
+fn listed_words(a: Result<usize, Refusal>) -> [u32; 4]
     ensures { result ≡ words_of (listed_numbers a) }
 {
     match a {
-        Listed::Facets(t) => [0, word(t), 0, 0],
-        Listed::NoFacets(r) => refusal_words(r),
+        Ok(t) => [0, word(t), 0, 0],
+        Err(r) => refusal_words(r),
     }
 }
 

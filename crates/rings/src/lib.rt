@@ -27,9 +27,7 @@ fn put_tags(out: &mut [u32], at: usize, tag: u32)
     requires { at + 8 ≤ length out.old }
     ensures { out.new ≡ put out.old at (replicate 8 tag) }
 {
-    for k in 0usize..8 {
-        out[at + k] = tag;
-    }
+    out[at..at + 8].fill(tag);
 }
 
 fn put_ring(

@@ -6,12 +6,15 @@ use mathlib.Core.Path.{◌≡◌, refl, sym, ◌∙◌, ap}
 use mathlib.Core.Logic.{◌≢◌, ⊎_elim}
 use native.Mathlib.Nat.{zero-add, add-zero, eq-or-lt_of_le, le_of_suc-le-suc}
 use native.Mathlib.Omega.{arith}
-use lib.ListN.{length, get_or, set, length-set}
+use lib.ListN.{length, get_or, set, length-set, replicate, length-replicate}
 use lib.Seq.{get_or-set_same, get_or-set_other}
 use lib.Dec.{eqb}
 use borrow.Author.Tests.{eqb-true, eqb-false}
 use Rattle.scratch.specs.Scratch.{Filled, Both, Kept}
 use native.Mathlib.Numerals.{add-one}
+use Rattle.std.proofs.lemmas.List.{get_or-replicate}
+use Rattle.lists.specs.Put.{put}
+use Rattle.lists.proofs.Puts.{length_put, get_d_put_in, get_d_put_before, get_d_put_past}
 use Rattle.lists.proofs.Bools.{clash}
 
 -- a store at r₀'s place makes the table that of g, where g differs from f at r₀ alone
@@ -154,3 +157,15 @@ both_two full f g a o n t₀ t₁ t₂ apart F G = record {
   before = λ j h. G.before j (omega arith) ∙ F.before j h;
   after = λ j h. G.after j h ∙ F.after j (omega arith);
 }
+
+-- a write of one value in n places
+pub fill_put : (x base n : ℕ) (t : List ℕ) {t' : List ℕ} → t' ≡ put t base (replicate n x) → base + n ≤ length t → Filled (λ r. x) base n t t'
+fill_put x base n t e h =
+    let m = length-replicate n x in
+    rw e
+    (record {
+      size = length_put t base (replicate n x);
+      entry = λ r l. get_d_put_in t base (replicate n x) r 0 (omega arith) (omega arith) ∙ get_or-replicate n r x 0 l;
+      before = λ j l. get_d_put_before t base (replicate n x) j 0 l;
+      after = λ j l. get_d_put_past t base (replicate n x) j 0 (omega arith);
+    })

@@ -9,7 +9,5 @@ pub fn clear(t: &mut [u32], from: usize, n: usize)
     requires { from + n ≤ length t.old }
     ensures { Filled (λ r. 0) from n t.old t.new }
 {
-    for i in 0..n {
-        t[from + i] = 0;
-    }
+    t[from..from + n].fill(0);
 }

@@ -1,4 +1,6 @@
 -- The header and the two bytes behind each facet are skipped: files that differ there alone are listed alike. Assumes nothing.
+use Rattle.std.specs.Prelude.{Result, ℕ}
+use Rattle.job.specs.declared.Refusal.{Refusal}
 use Prim.Native.Nat.{ℕ, ◌+◌, ◌<◌}
 use mathlib.Core.List.{List}
 use mathlib.Core.Path.{◌≡◌, refl, sym, ap, ◌∙◌}
@@ -10,7 +12,6 @@ use Rattle.little.specs.Little.{le_vec_at}
 use Rattle.little.proofs.Laws.{le32_same, vec_same}
 use Rattle.facets.specs.Facets.{count_in, facet_place, one_normal, one_corners, listed_normals, listed_corners}
 use Rattle.stl_reader.specs.Call.{Lists, SameFacets, is_stl, list_answer, answer_for, list_by, lists_after}
-use Rattle.stl_reader.specs.declared.Listed.{Listed}
 use Rattle.stl_reader.proofs.Reading.{Cause, cause_of}
 use Rattle.stl_reader.proofs.Reading.Cause.{unfit, short, fits}
 
@@ -44,11 +45,11 @@ module _ (s s₂ : List ℕ) (S : SameFacets s s₂) where
       (λ i h. rw (vector i 12 h (omega arith), vector i 24 h (omega arith), vector i 36 h (omega arith)))
 
   -- the lists after either, by the cause of the answer
-  by_cause : (l : Lists) (r : Listed) → Cause s l r → list_by r s l ≡ list_by r s₂ l
+  by_cause : (l : Lists) (r : Result ℕ Refusal) → Cause s l r → list_by r s l ≡ list_by r s₂ l
   by_cause l _ (unfit e) = refl
   by_cause l _ (short e h) = refl
   by_cause l _ (fits e h) = rw (corners_same, normals_same)
 
   pub after_same : (l : Lists) → lists_after s l ≡ lists_after s₂ l
   unfolding lists_after
-  after_same l = by_cause l (answer_for s l) (cause_of s l) ∙ ap (λ (r : Listed). list_by r s₂ l) (answer_same l)
+  after_same l = by_cause l (answer_for s l) (cause_of s l) ∙ ap (λ (r : Result ℕ Refusal). list_by r s₂ l) (answer_same l)

@@ -6,30 +6,23 @@ ghost use Rattle.stl_reader.specs.Call.{lists, ReadsStl};
 
 use job::Refusal;
 
-// How many facets were listed, or one refusal.
-#[derive(Drop)]
-pub enum Listed {
-    Facets(usize),
-    NoFacets(Refusal),
-}
-
-pub fn read_stl(file: &[u8], corners: &mut [f32], normals: &mut [f32]) -> Listed
+pub fn read_stl(file: &[u8], corners: &mut [f32], normals: &mut [f32]) -> Result<usize, Refusal>
     ensures { ReadsStl file.now (lists corners.old normals.old) result
         (lists corners.new normals.new) }
 {
     if file.len() < 84 {
-        return Listed::NoFacets(Refusal::NotStl);
+        return Err(Refusal::NotStl);
     }
     let t = little::le32_at(file, 80);
     if file.len() != 84 + 50 * t {
-        return Listed::NoFacets(Refusal::NotStl);
+        return Err(Refusal::NotStl);
     }
     if corners.len() < 9 * t {
-        return Listed::NoFacets(Refusal::NoStlRoom(t));
+        return Err(Refusal::NoStlRoom(t));
     }
     if normals.len() < 3 * t {
-        return Listed::NoFacets(Refusal::NoStlRoom(t));
+        return Err(Refusal::NoStlRoom(t));
     }
     facets::list_facets(file, t, corners, normals);
-    Listed::Facets(t)
+    Ok(t)
 }

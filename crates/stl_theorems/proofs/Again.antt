@@ -1,4 +1,5 @@
 -- A file that write_stl wrote, handed to read_stl. Assumes nothing.
+use Rattle.std.specs.Prelude.{Err, Ok, Result, ℕ}
 use Prim.Native.Nat.{ℕ, ◌+◌, ◌*◌, ◌<◌}
 use mathlib.Core.List.{List, ◌++◌}
 use mathlib.Core.Logic.{⊎_elim}
@@ -14,18 +15,15 @@ use Rattle.buffers.specs.Outs.{Outs}
 use Rattle.consistency.proofs.Means.{triangle_limit}
 use Rattle.facets.specs.Facets.{stl_bytes, stl_size, count_in, listed_corners, listed_normals}
 use Rattle.facets.proofs.Laws.{stl_long, long_listed_corners, long_listed_normals}
-use Rattle.stl_writer.specs.declared.Wrote.TheVariants.{Stl}
 use Rattle.stl_writer.specs.Call.{file_of, WritesStl}
 use Rattle.stl_writer.proofs.Demands.{only_consistent, file_in_front}
-use Rattle.stl_reader.specs.declared.Listed.{Listed}
-use Rattle.stl_reader.specs.declared.Listed.TheVariants.{Facets, NoFacets}
 use Rattle.stl_reader.specs.Call.{Lists, lists, ListRoom, listed_numbers, ReadsStl}
 use Rattle.stl_reader.proofs.Reading.{room_or}
 use Rattle.stl_reader.proofs.Demands.{always_listed, floats_and_rest, short_list_refused}
 use Rattle.stl_theorems.specs.Floats.{AllF32, corner_floats, normal_floats, word_in}
 use Rattle.stl_theorems.proofs.Back.{count_back, normals_back, all_corners_back, listed_normal_bits, listed_corner_bits}
 
-module _ {n : ℕ} {o : Outs} {c : Counts} {out out' : List ℕ} (W : WritesStl 8 8 o c out (Stl n) out') where
+module _ {n : ℕ} {o : Outs} {c : Counts} {out out' : List ℕ} (W : WritesStl 8 8 o c out (Ok n) out') where
   abbrev t : ℕ
   t = c.triangles
 
@@ -43,14 +41,14 @@ module _ {n : ℕ} {o : Outs} {c : Counts} {out out' : List ℕ} (W : WritesStl 
   size_is = ap length file_is ∙ stl_long o.positions o.triangles t ∙ ap stl_size (sym count_is)
 
   module _ {l l' : Lists} where
-    facets_are : {r : Listed} → ListRoom t l → ReadsStl (take n out') l r l' → r ≡ Facets t
-    facets_are R L = always_listed size_is (subst (λ (k : ℕ). ListRoom k l) (sym count_is) R) L ∙ ap Facets count_is
+    facets_are : {r : Result ℕ Refusal} → ListRoom t l → ReadsStl (take n out') l r l' → r ≡ Ok t
+    facets_are R L = always_listed size_is (subst (λ (k : ℕ). ListRoom k l) (sym count_is) R) L ∙ ap Ok count_is
 
-    as_facets : {r : Listed} → ListRoom t l → ReadsStl (take n out') l r l' → ReadsStl (take n out') l (Facets t) l'
-    as_facets R L = subst (λ (y : Listed). ReadsStl (take n out') l y l') (facets_are R L) L
+    as_facets : {r : Result ℕ Refusal} → ListRoom t l → ReadsStl (take n out') l r l' → ReadsStl (take n out') l (Ok t) l'
+    as_facets R L = subst (λ (y : Result ℕ Refusal). ReadsStl (take n out') l y l') (facets_are R L) L
 
-    pub listed_again : {r : Listed} → AllF32 o.positions → ListRoom t l → ReadsStl (take n out') l r l'
-        → (r ≡ Facets t)
+    pub listed_again : {r : Result ℕ Refusal} → AllF32 o.positions → ListRoom t l → ReadsStl (take n out') l r l'
+        → (r ≡ Ok t)
         × (l' ≡ lists (corner_floats o.positions o.triangles t ++ drop (9 * t) l.corners) (normal_floats o.positions o.triangles t ++ drop (3 * t) l.normals))
     listed_again f R L = (
       facets_are R L,
@@ -61,11 +59,11 @@ module _ {n : ℕ} {o : Outs} {c : Counts} {out out' : List ℕ} (W : WritesStl 
     )
 
     -- the lists as they were left, by the file's own bytes
-    left : {r : Listed} → ListRoom t l → ReadsStl (take n out') l r l'
+    left : {r : Result ℕ Refusal} → ListRoom t l → ReadsStl (take n out') l r l'
         → l' ≡ lists (listed_corners (take n out') t ++ drop (9 * t) l.corners) (listed_normals (take n out') t ++ drop (3 * t) l.normals)
     left R L = floats_and_rest (as_facets R L)
 
-    pub words_again : {i j : ℕ} {r : Listed} → AllF32 o.positions → ListRoom t l → ReadsStl (take n out') l r l' → i < t
+    pub words_again : {i j : ℕ} {r : Result ℕ Refusal} → AllF32 o.positions → ListRoom t l → ReadsStl (take n out') l r l' → i < t
         → (j < 3 → to_bits binary32 (get_or l'.normals (3 * i + j) nan) ≡ word_in (take n out') i j)
         × (j < 9 → to_bits binary32 (get_or l'.corners (9 * i + j) nan) ≡ word_in (take n out') i (3 + j))
     words_again {i} {j} f R L h = (
@@ -81,7 +79,7 @@ module _ {n : ℕ} {o : Outs} {c : Counts} {out out' : List ℕ} (W : WritesStl 
           (listed_corner_bits o.positions o.triangles t f i h j b)),
     )
 
-    pub only_room : {q : Refusal} → ReadsStl (take n out') l (NoFacets q) l' → q ≡ NoStlRoom t
+    pub only_room : {q : Refusal} → ReadsStl (take n out') l (Err q) l' → q ≡ NoStlRoom t
     only_room {q} L =
         ⊎_elim
         (λ h. told q _ (ap listed_numbers (short_list_refused size_is h L)) ∙ ap NoStlRoom count_is)

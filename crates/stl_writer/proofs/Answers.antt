@@ -1,4 +1,5 @@
 -- Each answer of write_stl keeps its promise. Assumes nothing.
+use Rattle.std.specs.Prelude.{Err, Ok, Result, ℕ}
 use Prim.Native.Nat.{ℕ, ◌*◌, ◌<◌, ◌≤◌}
 use mathlib.Core.Bool.{true, false}
 use mathlib.Core.List.{List, ◌++◌}
@@ -9,6 +10,7 @@ use lib.Seq.{get_or-take}
 use borrow.Author.Tests.{lt-ltb, le-ltb}
 use Rattle.lists.specs.Put.{put}
 use Rattle.lists.proofs.Puts.{next}
+use Rattle.job.specs.declared.Refusal.{Refusal}
 use Rattle.job.specs.declared.Refusal.TheVariants.{Inconsistent, NoStlRoom}
 use Rattle.buffers.specs.declared.Counts.{Counts}
 use Rattle.buffers.specs.Outs.{Outs}
@@ -16,26 +18,24 @@ use Rattle.consistency.specs.Consistent.{consistent}
 use Rattle.consistency.proofs.Means.{consistent_means, corner_below, triangle_limit}
 use Rattle.facets.specs.Facets.{Drawn, stl_head, facets_of, stl_bytes, stl_size}
 use Rattle.facets.proofs.Laws.{long_head, facets_front}
-use Rattle.stl_writer.specs.declared.Wrote.{Wrote}
-use Rattle.stl_writer.specs.declared.Wrote.TheVariants.{Stl, NoStl}
 use Rattle.stl_writer.specs.Call.{file_of, write_answer, write_by, bytes_after, wrote_numbers, WritesStl}
 
 -- the promise, of the answer itself
-pub by_answer : (p d : ℕ) (o : Outs) (c : Counts) (out : List ℕ) (r : Wrote) (out' : List ℕ) → r ≡ write_answer p d o c (length out) → out' ≡ write_by r o c out
+pub by_answer : (p d : ℕ) (o : Outs) (c : Counts) (out : List ℕ) (r : Result ℕ Refusal) (out' : List ℕ) → r ≡ write_answer p d o c (length out) → out' ≡ write_by r o c out
     → WritesStl p d o c out r out'
 unfolding bytes_after
-by_answer p d o c out r out' e w = record { answer = ap wrote_numbers e; bytes = w ∙ ap (λ (x : Wrote). write_by x o c out) e }
+by_answer p d o c out r out' e w = record { answer = ap wrote_numbers e; bytes = w ∙ ap (λ (x : Result ℕ Refusal). write_by x o c out) e }
 
 module _ (p d : ℕ) (o : Outs) (c : Counts) (room : ℕ) where
-  pub at_17 : consistent p d o c ≡ false → NoStl Inconsistent ≡ write_answer p d o c room
+  pub at_17 : consistent p d o c ≡ false → Err Inconsistent ≡ write_answer p d o c room
   unfolding write_answer
   at_17 e = rw e refl
 
-  pub at_18 : consistent p d o c ≡ true → room < stl_size c.triangles → NoStl (NoStlRoom (stl_size c.triangles)) ≡ write_answer p d o c room
+  pub at_18 : consistent p d o c ≡ true → room < stl_size c.triangles → Err (NoStlRoom (stl_size c.triangles)) ≡ write_answer p d o c room
   unfolding write_answer
   at_18 e h = rw (e, lt-ltb room (stl_size c.triangles) h) refl
 
-  pub at_file : consistent p d o c ≡ true → stl_size c.triangles ≤ room → Stl (stl_size c.triangles) ≡ write_answer p d o c room
+  pub at_file : consistent p d o c ≡ true → stl_size c.triangles ≤ room → Ok (stl_size c.triangles) ≡ write_answer p d o c room
   unfolding write_answer
   at_file e h = rw (e, le-ltb room (stl_size c.triangles) h) refl
 

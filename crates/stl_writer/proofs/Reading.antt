@@ -1,4 +1,5 @@
 -- What an answer of write_stl says of its causes, and of the lent bytes. Assumes nothing.
+use Rattle.std.specs.Prelude.{Err, Ok, Result, ℕ}
 use Prim.Native.Nat.{ℕ, ◌<◌, ◌≤◌}
 use mathlib.Core.Bool.{Bool, true, false}
 use mathlib.Core.List.{List, ◌++◌}
@@ -19,23 +20,21 @@ use Rattle.consistency.specs.Consistent.{consistent}
 use Rattle.consistency.proofs.Means.{triangle_limit}
 use Rattle.facets.specs.Facets.{stl_size}
 use Rattle.facets.proofs.Laws.{stl_long}
-use Rattle.stl_writer.specs.declared.Wrote.{Wrote}
-use Rattle.stl_writer.specs.declared.Wrote.TheVariants.{Stl, NoStl}
 use Rattle.stl_writer.specs.Call.{file_of, write_answer, bytes_after, wrote_numbers}
 use Rattle.stl_writer.proofs.Answers.{at_17, at_18, at_file}
 
 -- an answer is told by its numbers
-pub wrote_told : (r q : Wrote) → wrote_numbers r ≡ wrote_numbers q → r ≡ q
-wrote_told (Stl n) (Stl m) e = ap (λ (l : List ℕ). Stl (get_or l 1 0)) e
-wrote_told (Stl n) (NoStl q) e = absurd (zero_not q (ap (λ (l : List ℕ). get_or l 0 0) e))
-wrote_told (NoStl r) (Stl m) e = absurd (zero_not r (sym (ap (λ (l : List ℕ). get_or l 0 0) e)))
-wrote_told (NoStl r) (NoStl q) e = ap NoStl (told r q e)
+pub wrote_told : (r q : Result ℕ Refusal) → wrote_numbers r ≡ wrote_numbers q → r ≡ q
+wrote_told (Ok n) (Ok m) e = ap (λ (l : List ℕ). Ok (get_or l 1 0)) e
+wrote_told (Ok n) (Err q) e = absurd (zero_not q (ap (λ (l : List ℕ). get_or l 0 0) e))
+wrote_told (Err r) (Ok m) e = absurd (zero_not r (sym (ap (λ (l : List ℕ). get_or l 0 0) e)))
+wrote_told (Err r) (Err q) e = ap Err (told r q e)
 
 -- ---- the three answers, each with its cause
-pub data Cause (p d : ℕ) (o : Outs) (c : Counts) (room : ℕ) : Wrote → Type 0 where
-  unfit : consistent p d o c ≡ false → Cause p d o c room (NoStl Inconsistent)
-  short : consistent p d o c ≡ true → room < stl_size c.triangles → Cause p d o c room (NoStl (NoStlRoom (stl_size c.triangles)))
-  fits : consistent p d o c ≡ true → stl_size c.triangles ≤ room → Cause p d o c room (Stl (stl_size c.triangles))
+pub data Cause (p d : ℕ) (o : Outs) (c : Counts) (room : ℕ) : Result ℕ Refusal → Type 0 where
+  unfit : consistent p d o c ≡ false → Cause p d o c room (Err Inconsistent)
+  short : consistent p d o c ≡ true → room < stl_size c.triangles → Cause p d o c room (Err (NoStlRoom (stl_size c.triangles)))
+  fits : consistent p d o c ≡ true → stl_size c.triangles ≤ room → Cause p d o c room (Ok (stl_size c.triangles))
 
 module _ (p d : ℕ) (o : Outs) (c : Counts) (room : ℕ) where
   pub cause_of : Cause p d o c room (write_answer p d o c room)
@@ -49,23 +48,23 @@ module _ (p d : ℕ) (o : Outs) (c : Counts) (room : ℕ) where
       go true e = room_of (ltb room (stl_size c.triangles)) refl e
       go false e = subst (Cause p d o c room) (at_17 p d o c room e) (unfit e)
 
-  pub answer_of : (r : Wrote) → Cause p d o c room r → r ≡ write_answer p d o c room
+  pub answer_of : (r : Result ℕ Refusal) → Cause p d o c room r → r ≡ write_answer p d o c room
   answer_of _ (unfit e) = at_17 p d o c room e
   answer_of _ (short e h) = at_18 p d o c room e h
   answer_of _ (fits e h) = at_file p d o c room e h
 
-  pub cause_number : (r : Wrote) → Cause p d o c room r → (q : Refusal) → r ≡ NoStl q → (17 ≤ number_of q) × (number_of q ≤ 18)
+  pub cause_number : (r : Result ℕ Refusal) → Cause p d o c room r → (q : Refusal) → r ≡ Err q → (17 ≤ number_of q) × (number_of q ≤ 18)
   cause_number _ (unfit e) q x = subst (λ (n : ℕ). (17 ≤ n) × (n ≤ 18)) (ap (λ (l : List ℕ). get_or l 0 0) (ap wrote_numbers x)) (omega arith, omega arith)
   cause_number _ (short e h) q x = subst (λ (n : ℕ). (17 ≤ n) × (n ≤ 18)) (ap (λ (l : List ℕ). get_or l 0 0) (ap wrote_numbers x)) (omega arith, omega arith)
   cause_number _ (fits e h) q x = absurd (zero_not q (ap (λ (l : List ℕ). get_or l 0 0) (ap wrote_numbers x)))
 
-  pub cause_17 : Cause p d o c room (NoStl Inconsistent) → consistent p d o c ≡ false
+  pub cause_17 : Cause p d o c room (Err Inconsistent) → consistent p d o c ≡ false
   cause_17 (unfit e) = e
 
-  pub cause_18 : (n : ℕ) → Cause p d o c room (NoStl (NoStlRoom n)) → (consistent p d o c ≡ true) × (n ≡ stl_size c.triangles) × (room < n)
+  pub cause_18 : (n : ℕ) → Cause p d o c room (Err (NoStlRoom n)) → (consistent p d o c ≡ true) × (n ≡ stl_size c.triangles) × (room < n)
   cause_18 _ (short e h) = (e, refl, h)
 
-  pub cause_file : (n : ℕ) → Cause p d o c room (Stl n) → (consistent p d o c ≡ true) × (n ≡ stl_size c.triangles) × (n ≤ room)
+  pub cause_file : (n : ℕ) → Cause p d o c room (Ok n) → (consistent p d o c ≡ true) × (n ≡ stl_size c.triangles) × (n ≤ room)
   cause_file _ (fits e h) = (e, refl, h)
 
 -- ---- the lent bytes after an answer
@@ -74,11 +73,11 @@ unfolding file_of
 file_long o c = stl_long o.positions o.triangles c.triangles
 
 module _ (p d : ℕ) (o : Outs) (c : Counts) (out : List ℕ) where
-  pub after_refusal : (q : Refusal) → NoStl q ≡ write_answer p d o c (length out) → bytes_after p d o c out ≡ out
+  pub after_refusal : (q : Refusal) → Err q ≡ write_answer p d o c (length out) → bytes_after p d o c out ≡ out
   unfolding bytes_after
   after_refusal q e = rw (← e)
 
-  pub after_file : (n : ℕ) → Stl n ≡ write_answer p d o c (length out) → n ≡ stl_size c.triangles → n ≤ length out → bytes_after p d o c out ≡ file_of o c ++ drop n out
+  pub after_file : (n : ℕ) → Ok n ≡ write_answer p d o c (length out) → n ≡ stl_size c.triangles → n ≤ length out → bytes_after p d o c out ≡ file_of o c ++ drop n out
   unfolding bytes_after
   after_file n e s h = rw (← e) (put_front out (file_of o c) n (file_long o c ∙ sym s) h)
 

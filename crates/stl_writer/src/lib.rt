@@ -7,13 +7,6 @@ ghost use Rattle.stl_writer.specs.Call.{WritesStl};
 use buffers::Counts;
 use job::Refusal;
 
-// The size of the file that was written, or one refusal.
-#[derive(Drop)]
-pub enum Wrote {
-    Stl(usize),
-    NoStl(Refusal),
-}
-
 // Of six mesh buffers and the counts K, V and T that came with them.
 pub fn write_stl(
     positions: &[f32],
@@ -24,7 +17,7 @@ pub fn write_stl(
     boxes: &[f32],
     c: Counts,
     out: &mut [u8],
-) -> Wrote
+) -> Result<usize, Refusal>
     ensures { WritesStl 8 8 (outs positions.now normals.now tags.now triangles.now tubes.now boxes.now) c out.old result out.new }
 {
     if !consistency::is_consistent(
@@ -36,14 +29,14 @@ pub fn write_stl(
         tubes,
         boxes.len(),
     ) {
-        return Wrote::NoStl(Refusal::Inconsistent);
+        return Err(Refusal::Inconsistent);
     }
     let t = c.triangles;
     let size = 84 + 50 * t;
     if out.len() < size {
-        return Wrote::NoStl(Refusal::NoStlRoom(size));
+        return Err(Refusal::NoStlRoom(size));
     }
     facets::put_head(out, t as u32);
     facets::put_facets(out, 84, positions, &triangles[..3 * t]);
-    Wrote::Stl(size)
+    Ok(size)
 }

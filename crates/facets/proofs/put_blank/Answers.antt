@@ -1,26 +1,12 @@
-use borrow.Author.Rules.{rules}
-use Prim.Native.Nat.{ℕ, ◌≤◌, ◌-◌}
-use mathlib.Core.Path.{◌≡◌, refl}
-use mathlib.Core.List.{[], ◌∷◌}
-use native.Mathlib.Omega.{arith}
-use Rattle.lists.specs.Put.{put, upto}
-use Rattle.lists.proofs.Puts.{set_turn, kept, upto_replicate}
+use mathlib.Core.Path.{sym, ap, ◌∙◌}
+use mathlib.Core.List.{List, ◌++◌}
+use Rattle.std.specs.Prelude.{ℕ, replicate, drop}
+use Rattle.std.proofs.lemmas.List.{length-replicate, length-take-le}
+use Rattle.lists.proofs.Puts.{put_front}
 use Rattle.facets.proofs.put_blank.Goals as goal
-
-pub loop-i-init : goal.loop-i-init
-unfolding put upto
-loop-i-init c = (omega arith, refl)
-
-pub bounds-out-i : goal.bounds-out-i
-bounds-out-i c = omega (arith, kept _ _ _ c.loop-i.invariant.1)
-
-pub loop-i-preserved : goal.loop-i-preserved
-loop-i-preserved c = (omega arith, set_turn _ _ _ c.loop-i.i c.loop-i.i c.loop-i.invariant.1 refl (omega arith))
-
-pub shape_of-out : goal.shape_of-out
-shape_of-out c = kept _ _ _ c.loop-i.invariant.1
 
 pub returns : goal.returns
 returns c =
-    let e : c.loop-i.i ≡ 80 = omega arith in
-    rw (upto_replicate 0 80) (rw e at c.loop-i.invariant.1)
+    let out = c.args.out.now in
+    ap (λ (m : List ℕ). m ++ drop 80 out) (c.fill.ensures.after (λ y e. e) ∙ ap (λ (k : ℕ). replicate k 0) (length-take-le 80 out c.requires))
+    ∙ sym (put_front out (replicate 80 0) 80 (length-replicate {A = ℕ} 80 0) c.requires)

@@ -2,8 +2,8 @@ use mathlib.Core.Path.{◌∙◌}
 use borrow.Author.Rules.{rules}
 use Rattle.ribbon_c.proofs.wrote_words.Goals as goal
 
-pub returns-in-Stl : goal.returns-in-Stl
-returns-in-Stl c = rw (c.word.ensures, c.in-Stl.is)
+pub returns-in-Ok : goal.returns-in-Ok
+returns-in-Ok c = rw (c.word.ensures, c.in-Ok.is)
 
-pub returns-in-NoStl : goal.returns-in-NoStl
-returns-in-NoStl c = c.refusal_words.ensures ∙ rw c.in-NoStl.is
+pub returns-in-Err : goal.returns-in-Err
+returns-in-Err c = c.refusal_words.ensures ∙ rw c.in-Err.is
