@@ -20,29 +20,38 @@ use shape::section::{half_sizes, spokes};
 use shape::{Kind, Spoke};
 use vectors::get_vec;
 
+// A tube of n residues, the first of which is `first`: its spline points and guides, and what a ring of its kind takes from its half-sizes alone.
+#[derive(Clone, Copy)]
+pub struct Tube<'a> {
+    pub points: &'a [f32],
+    pub guides: &'a [f32],
+    pub n: usize,
+    pub kind: Kind,
+    pub first: u32,
+    pub spokes: [Spoke; 8],
+    ghost course: { Course points.now guides.now n first kind spokes },
+}
+
 // The first ring and the start's centre. The box begins with the first vertex.
 fn start_cap(
-    points: &[f32],
-    guides: &[f32],
+    tube: &Tube,
     positions: &mut [f32],
     normals: &mut [f32],
     tags: &mut [u32],
-    n: usize,
-    kind: Kind,
     v: usize,
-    first: u32,
-    spokes: [Spoke; 8],
 ) -> Bounds
-    requires { Course points.now guides.now n first kind spokes × VertexRoom positions.old normals.old tags.old (v + 9) }
+    requires { VertexRoom positions.old normals.old tags.old (v + 9) }
     ensures { Began positions.old normals.old tags.old v
-        (ring_positions kind points.now guides.now n 0 ++ floats (frame_at points.now guides.now n 0).position)
-        (ring_normals kind points.now guides.now n 0 ++ floats (start_normal points.now guides.now n))
-        (ring_tags first n 0 ++ (tag_at first n 0 ∷ []))
+        (ring_positions tube.now.kind tube.now.points.now tube.now.guides.now tube.now.n 0
+        ++ floats (frame_at tube.now.points.now tube.now.guides.now tube.now.n 0).position)
+        (ring_normals tube.now.kind tube.now.points.now tube.now.guides.now tube.now.n 0
+        ++ floats (start_normal tube.now.points.now tube.now.guides.now tube.now.n))
+        (ring_tags tube.now.first tube.now.n 0 ++ (tag_at tube.now.first tube.now.n 0 ∷ []))
         result positions.new normals.new tags.new }
 {
-    let f = frame_at(points, guides, n, 0);
-    let r = ring(f, kind, n, 0, spokes);
-    let tag = tag_at(first, n, 0);
+    let f = frame_at(tube.points, tube.guides, tube.n, 0);
+    let r = ring(f, tube.kind, tube.n, 0, tube.spokes);
+    let tag = tag_at(tube.first, tube.n, 0);
     let p = f.position;
     let back = f.tangent.scale(-1.0);
     let ps = r.positions;
@@ -53,40 +62,34 @@ fn start_cap(
 // The rings of `count` samples, all of one span, from sample `from` on. A span's control points and guides are read once, and what they give
 // alone need not be computed at each sample.
 fn span_rings(
-    points: &[f32],
-    guides: &[f32],
+    tube: &Tube,
     positions: &mut [f32],
     normals: &mut [f32],
     tags: &mut [u32],
-    n: usize,
-    kind: Kind,
     v: usize,
-    first: u32,
-    spokes: [Spoke; 8],
     from: usize,
     count: usize,
     corners: Bounds,
 ) -> Bounds
-    requires course { Course points.now guides.now n first kind spokes × VertexRoom positions.old normals.old tags.old (v + 8 * count) }
-    requires count_bound { (from % 8 + count ≤ 8) × (from / 8 + 1 < n) }
+    requires room { VertexRoom positions.old normals.old tags.old (v + 8 * count) }
+    requires count_bound { (from % 8 + count ≤ 8) × (from / 8 + 1 < tube.now.n) }
     ensures { Wrote corners positions.old normals.old tags.old v
-        (upto (λ (j : ℕ). ring_positions kind points.now guides.now n (from + j)) count)
-        (upto (λ (j : ℕ). ring_normals kind points.now guides.now n (from + j)) count)
-        (upto (λ (j : ℕ). ring_tags first n (from + j)) count)
+        (upto (λ (j : ℕ). ring_positions tube.now.kind tube.now.points.now tube.now.guides.now tube.now.n (from + j)) count)
+        (upto (λ (j : ℕ). ring_normals tube.now.kind tube.now.points.now tube.now.guides.now tube.now.n (from + j)) count)
+        (upto (λ (j : ℕ). ring_tags tube.now.first tube.now.n (from + j)) count)
         result positions.new normals.new tags.new }
 {
     let i = from / 8;
-    let q = span(points, n, i);
-    let a = get_vec(guides, i);
-    let b = get_vec(guides, i + 1);
-    let mut j = 0usize;
+    let q = span(tube.points, tube.n, i);
+    let a = get_vec(tube.guides, i);
+    let b = get_vec(tube.guides, i + 1);
     let mut at = v;
     let mut bounds = corners;
-    while j < count {
+    for j in 0..count {
         let s = from + j;
-        let t = param_at(n, s);
+        let t = param_at(tube.n, s);
         let f = frame(q, t, between(a, b, t));
-        let own = spokes_at(kind, n, s, spokes);
+        let own = spokes_at(tube.kind, tube.n, s, tube.spokes);
         bounds = put_sides(
             positions,
             normals,
@@ -96,10 +99,9 @@ fn span_rings(
             f.guide,
             f.binormal,
             own,
-            tag_at(first, n, s),
+            tag_at(tube.first, tube.n, s),
             bounds,
         );
-        j += 1;
         at += 8;
     }
     bounds
@@ -107,36 +109,29 @@ fn span_rings(
 
 // The rings between the first and the last, span by span.
 fn later_rings(
-    points: &[f32],
-    guides: &[f32],
+    tube: &Tube,
     positions: &mut [f32],
     normals: &mut [f32],
     tags: &mut [u32],
-    n: usize,
-    kind: Kind,
     v: usize,
-    first: u32,
-    spokes: [Spoke; 8],
     corners: Bounds,
 ) -> Bounds
-    requires { Course points.now guides.now n first kind spokes × VertexRoom positions.old normals.old tags.old (v + 8 * (8 * (n - 1) - 1)) }
+    requires { VertexRoom positions.old normals.old tags.old (v + 8 * (8 * (tube.now.n - 1) - 1)) }
     ensures { Wrote corners positions.old normals.old tags.old v
-        (upto (λ (s : ℕ). ring_positions kind points.now guides.now n (s + 1)) (8 * (n - 1) - 1))
-        (upto (λ (s : ℕ). ring_normals kind points.now guides.now n (s + 1)) (8 * (n - 1) - 1))
-        (upto (λ (s : ℕ). ring_tags first n (s + 1)) (8 * (n - 1) - 1))
+        (upto (λ (s : ℕ). ring_positions tube.now.kind tube.now.points.now tube.now.guides.now tube.now.n (s + 1)) (8 * (tube.now.n - 1) - 1))
+        (upto (λ (s : ℕ). ring_normals tube.now.kind tube.now.points.now tube.now.guides.now tube.now.n (s + 1)) (8 * (tube.now.n - 1) - 1))
+        (upto (λ (s : ℕ). ring_tags tube.now.first tube.now.n (s + 1)) (8 * (tube.now.n - 1) - 1))
         result positions.new normals.new tags.new }
 {
-    let total = 8 * (n - 1) - 1;
+    let total = 8 * (tube.n - 1) - 1;
     let mut s = 0usize;
     let mut at = v;
     let mut bounds = corners;
+    // by 7 and then by 8: a `for` would count spans, and each turn would have to find its samples again
     while s < total {
         let from = s + 1;
         let count = 8 - from % 8;
-        bounds = span_rings(
-            points, guides, positions, normals, tags, n, kind, at, first, spokes, from, count,
-            bounds,
-        );
+        bounds = span_rings(tube, positions, normals, tags, at, from, count, bounds);
         s += count;
         at += 8 * count;
     }
@@ -145,34 +140,29 @@ fn later_rings(
 
 // The last ring and the end's centre.
 fn end_cap(
-    points: &[f32],
-    guides: &[f32],
+    tube: &Tube,
     positions: &mut [f32],
     normals: &mut [f32],
     tags: &mut [u32],
-    n: usize,
-    kind: Kind,
     v: usize,
-    first: u32,
-    spokes: [Spoke; 8],
     corners: Bounds,
 ) -> Bounds
-    requires { Course points.now guides.now n first kind spokes × VertexRoom positions.old normals.old tags.old (v + 9) }
+    requires { VertexRoom positions.old normals.old tags.old (v + 9) }
     ensures { Wrote corners positions.old normals.old tags.old v
-        (ring_positions kind points.now guides.now n (8 * (n - 1))
-        ++ floats (frame_at points.now guides.now n (8 * (n - 1))).position)
-        (ring_normals kind points.now guides.now n (8 * (n - 1))
-        ++ floats (end_normal points.now guides.now n))
-        (ring_tags first n (8 * (n - 1)) ++ ((first + (n - 1)) ∷ []))
+        (ring_positions tube.now.kind tube.now.points.now tube.now.guides.now tube.now.n (8 * (tube.now.n - 1))
+        ++ floats (frame_at tube.now.points.now tube.now.guides.now tube.now.n (8 * (tube.now.n - 1))).position)
+        (ring_normals tube.now.kind tube.now.points.now tube.now.guides.now tube.now.n (8 * (tube.now.n - 1))
+        ++ floats (end_normal tube.now.points.now tube.now.guides.now tube.now.n))
+        (ring_tags tube.now.first tube.now.n (8 * (tube.now.n - 1)) ++ ((tube.now.first + (tube.now.n - 1)) ∷ []))
         result positions.new normals.new tags.new }
 {
-    let s = 8 * (n - 1);
-    let f = frame_at(points, guides, n, s);
-    let r = ring(f, kind, n, s, spokes);
-    let tag = tag_at(first, n, s);
+    let s = 8 * (tube.n - 1);
+    let f = frame_at(tube.points, tube.guides, tube.n, s);
+    let r = ring(f, tube.kind, tube.n, s, tube.spokes);
+    let tag = tag_at(tube.first, tube.n, s);
     let p = f.position;
-    let normal = end_normal(points, n, f);
-    let last = first + (n - 1) as u32;
+    let normal = end_normal(tube.points, tube.n, f);
+    let last = tube.first + (tube.n - 1) as u32;
     put_capped(
         positions, normals, tags, v, r, tag, p, normal, last, corners,
     )
@@ -180,35 +170,24 @@ fn end_cap(
 
 // All vertices over spline points and guides. What a ring takes from its half-sizes alone is computed once.
 fn skin(
-    points: &[f32],
-    guides: &[f32],
+    tube: &Tube,
     positions: &mut [f32],
     normals: &mut [f32],
     tags: &mut [u32],
-    n: usize,
-    kind: Kind,
     v: usize,
-    first: u32,
-    spokes: [Spoke; 8],
 ) -> Bounds
-    requires { Course points.now guides.now n first kind spokes × VertexRoom positions.old normals.old tags.old (v + vertex_count n) }
+    requires { VertexRoom positions.old normals.old tags.old (v + vertex_count tube.now.n) }
     ensures { Began positions.old normals.old tags.old v
-        (skin_positions kind points.now guides.now n)
-        (skin_normals kind points.now guides.now n)
-        (tags_of first n)
+        (skin_positions tube.now.kind tube.now.points.now tube.now.guides.now tube.now.n)
+        (skin_normals tube.now.kind tube.now.points.now tube.now.guides.now tube.now.n)
+        (tags_of tube.now.first tube.now.n)
         result positions.new normals.new tags.new }
 {
     let later = v + 9;
-    let end = later + 8 * (8 * (n - 1) - 1);
-    let start = start_cap(
-        points, guides, positions, normals, tags, n, kind, v, first, spokes,
-    );
-    let rings = later_rings(
-        points, guides, positions, normals, tags, n, kind, later, first, spokes, start,
-    );
-    end_cap(
-        points, guides, positions, normals, tags, n, kind, end, first, spokes, rings,
-    )
+    let end = later + 8 * (8 * (tube.n - 1) - 1);
+    let start = start_cap(tube, positions, normals, tags, v);
+    let rings = later_rings(tube, positions, normals, tags, later, start);
+    end_cap(tube, positions, normals, tags, end, rings)
 }
 
 // One tube, from vertex v on, and the corners of its box. `course` holds 6n floats: on entry n C-alphas and then n oxygens, with a flag for each that is not 0 where there
@@ -237,16 +216,13 @@ pub fn tube_vertices(
     let spokes = spokes(half_sizes(kind));
     lay_course(flags, course, n, kind);
     let view = &course[..];
-    skin(
-        &view[..m],
-        &view[m..],
-        positions,
-        normals,
-        tags,
+    let tube = Tube {
+        points: &view[..m],
+        guides: &view[m..],
         n,
         kind,
-        v,
         first,
         spokes,
-    )
+    };
+    skin(&tube, positions, normals, tags, v)
 }

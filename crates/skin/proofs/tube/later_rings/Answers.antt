@@ -14,7 +14,7 @@ loop-s-init c = (omega arith, omega arith, wrote_none _ _ _ _ _)
 
 pub span_rings-bounds-requires : goal.span_rings-bounds-requires
 span_rings-bounds-requires c =
-    let loop = c.loop-s in record { course = (c.requires.0, room _ _ _ _ _ loop.invariant.2 c.requires.1 (loop.at + 8 * (8 - (loop.s + 1) % 8)) (omega arith)); count_bound = (omega arith, omega arith) }
+    let loop = c.loop-s in record { room = room _ _ _ _ _ loop.invariant.2 c.requires (loop.at + 8 * (8 - (loop.s + 1) % 8)) (omega arith); count_bound = (omega arith, omega arith) }
 
 pub overflow_add-s : goal.overflow_add-s
 overflow_add-s c = omega (arith, c.loop-s, c.loop-s-test, c)
@@ -32,11 +32,11 @@ pub loop-s-preserved : goal.loop-s-preserved
 loop-s-preserved c =
     let args = c.args in
     let loop = c.loop-s in
-    let p = args.points.now in
-    let g = args.guides.now in
-    let n = args.n in
-    let kind = args.kind in
-    let first = args.first in
+    let p = args.tube.now.points.now in
+    let g = args.tube.now.guides.now in
+    let n = args.tube.now.n in
+    let kind = args.tube.now.kind in
+    let first = args.tube.now.first in
     let s = loop.s in
     let step : (j : ℕ) → s + 1 + j ≡ s + j + 1 = λ j. omega arith in
     (omega (arith, loop, c.loop-s-test, c), omega (arith, loop, c.loop-s-test, c), wrote_more _ _ _ _ _ _ 8 (λ s. length_positions kind p g n (s + 1)) (λ s. length_normals kind p g n (s + 1)) (λ s. length_tags first n (s + 1)) _ _ s _ (λ j. ap (ring_positions kind p g n) (step j)) (λ j. ap (ring_normals kind p g n) (step j)) (λ j. ap (ring_tags first n) (step j)) c.span_rings-bounds.ensures loop.invariant.2 loop.invariant.1)
@@ -51,5 +51,5 @@ pub shape_of-tags : goal.shape_of-tags
 shape_of-tags c = kept _ _ _ c.loop-s.invariant.2.tag
 
 pub returns : goal.returns
-returns c = let e : c.loop-s.s ≡ 8 * (c.args.n - 1) - 1 = omega arith in
+returns c = let e : c.loop-s.s ≡ 8 * (c.args.tube.now.n - 1) - 1 = omega arith in
     rw e at c.loop-s.invariant.2

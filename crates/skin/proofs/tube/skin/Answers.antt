@@ -10,23 +10,26 @@ use Rattle.skin.proofs.tube.skin.Goals as goal
 pub start_cap-start-requires : goal.start_cap-start-requires
 start_cap-start-requires c =
     let pre = c.requires in
-    (pre.0, less _ _ pre.1 (omega (arith, vertex_count_lem c.args.n pre.0.two, pre.0.two)))
+    let course = c.args.tube.now.course in
+    less _ _ pre (omega (arith, vertex_count_lem c.args.tube.now.n course.two, course.two))
 
 pub later_rings-rings-requires : goal.later_rings-rings-requires
 later_rings-rings-requires c =
     let pre = c.requires in
-    (pre.0, room _ _ _ _ _ c.start_cap-start.ensures pre.1 _ (omega (arith, vertex_count_lem c.args.n pre.0.two, pre.0.two)))
+    let course = c.args.tube.now.course in
+    room _ _ _ _ _ c.start_cap-start.ensures pre _ (omega (arith, vertex_count_lem c.args.tube.now.n course.two, course.two))
 
 pub end_cap-requires : goal.end_cap-requires
 end_cap-requires c =
     let pre = c.requires in
-    (pre.0, room _ _ _ _ _ c.later_rings-rings.ensures (same_room _ _ _ _ c.start_cap-start.ensures pre.1) _ (omega (arith, vertex_count_lem c.args.n pre.0.two, pre.0.two)))
+    let course = c.args.tube.now.course in
+    room _ _ _ _ _ c.later_rings-rings.ensures (same_room _ _ _ _ c.start_cap-start.ensures pre) _ (omega (arith, vertex_count_lem c.args.tube.now.n course.two, course.two))
 
 pub returns : goal.returns
 unfolding skin_positions skin_normals tags_of
 returns c =
     let args = c.args in
-    whole args.kind args.points.now args.guides.now args.n args.first _ _ _ _ _ _ args.v _ _ c.requires.0.two refl refl c.start_cap-start.ensures c.later_rings-rings.ensures c.end_cap.ensures
+    whole args.tube.now.kind args.tube.now.points.now args.tube.now.guides.now args.tube.now.n args.tube.now.first _ _ _ _ _ _ args.v _ _ c.args.tube.now.course.two refl refl c.start_cap-start.ensures c.later_rings-rings.ensures c.end_cap.ensures
 
 pub shape_of-positions : goal.shape_of-positions
 shape_of-positions c = kept _ _ _ (returns c).pos

@@ -16,37 +16,31 @@ loop-j-init c = (omega arith, omega arith, wrote_none _ _ _ _ _)
 
 pub spokes_at-own-requires : goal.spokes_at-own-requires
 spokes_at-own-requires c =
-    let r = c.requires.course.0 in
+    let r = c.args.tube.now.course in
     (r.two, r.most, omega (arith, c.loop-j, c.loop-j-test, c), r.same)
 
 pub tag_at-requires : goal.tag_at-requires
 tag_at-requires c =
-    let r = c.requires.course.0 in
+    let r = c.args.tube.now.course in
     (r.two, omega (arith, c.loop-j, c.loop-j-test, c), r.low)
 
 pub put_sides-bounds-requires : goal.put_sides-bounds-requires
 put_sides-bounds-requires c =
     let s = c.loop-j in
-    room _ _ _ _ _ s.invariant.2 c.requires.course.1 (s.at + 8) (omega (arith, s, c.loop-j-test, c))
-
-pub overflow_add-j : goal.overflow_add-j
-overflow_add-j c = omega (arith, c.loop-j, c.loop-j-test, c)
+    room _ _ _ _ _ s.invariant.2 c.requires.room (s.at + 8) (omega (arith, s, c.loop-j-test, c))
 
 pub overflow_add-at : goal.overflow_add-at
 overflow_add-at c = omega (arith, c.loop-j, c.loop-j-test, c)
-
-pub loop-j-smaller : goal.loop-j-smaller
-loop-j-smaller c = omega (arith, c.loop-j, c.loop-j-test, c)
 
 pub loop-j-preserved : goal.loop-j-preserved
 unfolding ring_positions ring_normals ring_tags ring_at cross_section
 loop-j-preserved c =
     let a = c.args in
     let loop = c.loop-j in
-    let p = a.points.now in
-    let g = a.guides.now in
-    let f = on_span p g a.n a.from loop.j (omega (arith, loop, c.loop-j-test, c)) c.requires.count_bound.1 c.span-q.ensures c.get_vec-a.ensures c.get_vec-b.ensures c.param_at-t.ensures c.between.ensures c.frame-f.ensures in
-    (omega (arith, loop, c.loop-j-test, c), omega (arith, loop), wrote_turn _ _ _ 8 (λ j. length_positions a.kind p g a.n (a.from + j)) (λ j. length_normals a.kind p g a.n (a.from + j)) (λ j. length_tags a.first a.n (a.from + j)) _ _ loop.j (rw (c.spokes_at-own.ensures, f, c.tag_at.ensures) at c.put_sides-bounds.ensures) loop.invariant.2 loop.invariant.1)
+    let p = a.tube.now.points.now in
+    let g = a.tube.now.guides.now in
+    let f = on_span p g a.tube.now.n a.from loop.j (omega (arith, loop, c.loop-j-test, c)) c.requires.count_bound.1 c.span-q.ensures c.get_vec-a.ensures c.get_vec-b.ensures c.param_at-t.ensures c.between.ensures c.frame-f.ensures in
+    (omega (arith, loop, c.loop-j-test, c), omega (arith, loop), wrote_turn _ _ _ 8 (λ j. length_positions a.tube.now.kind p g a.tube.now.n (a.from + j)) (λ j. length_normals a.tube.now.kind p g a.tube.now.n (a.from + j)) (λ j. length_tags a.tube.now.first a.tube.now.n (a.from + j)) _ _ loop.j (rw (c.spokes_at-own.ensures, f, c.tag_at.ensures) at c.put_sides-bounds.ensures) loop.invariant.2 loop.invariant.1)
 
 pub shape_of-positions : goal.shape_of-positions
 shape_of-positions c = kept _ _ _ c.loop-j.invariant.2.pos

@@ -4,7 +4,7 @@ use Rattle.skin.specs.Tube.{ring_positions, ring_normals, ring_tags, start_norma
 use Rattle.skin.proofs.tube.start_cap.Goals as goal
 
 pub put_capped-requires : goal.put_capped-requires
-put_capped-requires c = c.requires.1
+put_capped-requires c = c.requires
 
 pub returns : goal.returns
 unfolding ring_positions ring_normals ring_tags start_normal ring_at
