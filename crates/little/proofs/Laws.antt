@@ -21,11 +21,6 @@ pub long_vec : (v : Vec3) → length (le_vec v) ≡ 12
 unfolding le_vec le32 le16
 long_vec v = refl
 
--- a word's four bytes, each from the word itself
-pub word_bytes : (w : ℕ) → w < 4294967296 → w % 256 ∷ w / 256 % 256 ∷ w / 65536 % 256 ∷ w / 16777216 ∷ [] ≡ le32 w
-unfolding le32 le16
-word_bytes w h = ap (λ (x : ℕ). w % 256 ∷ w / 256 % 256 ∷ w / 65536 % 256 ∷ x ∷ []) (omega arith)
-
 le16_back : (s : List ℕ) (i n : ℕ) → Holds s i (le16 n) → le16_at s i ≡ n % 65536
 unfolding le16 le16_at
 le16_back s i n h =

@@ -6,27 +6,20 @@ ghost use Rattle.lists.specs.Put.{put};
 ghost use Rattle.little.specs.Little.{le32, le32_at, le_float, le_float_at, le_vec, le_vec_at};
 
 use floats::bits::{float_of, float_word};
-use numbers::byte_at;
 use vectors::Vec3;
 
 pub fn put_le32(out: &mut [u8], at: usize, w: u32)
     requires { at + 4 ≤ length out.old }
     ensures { out.new ≡ put out.old at (le32 w) }
 {
-    out[at] = (w % 256) as u8;
-    out[at + 1] = (w / 256 % 256) as u8;
-    out[at + 2] = (w / 65536 % 256) as u8;
-    out[at + 3] = (w / 16777216) as u8;
+    out[at..at + 4].copy_from_slice(&w.to_le_bytes());
 }
 
 pub fn le32_at(b: &[u8], at: usize) -> usize
     requires { at + 4 ≤ length b.now }
     ensures { (result ≡ le32_at b.now at) × (result < 4294967296) }
 {
-    byte_at(b, at)
-        + byte_at(b, at + 1) * 256
-        + byte_at(b, at + 2) * 65536
-        + byte_at(b, at + 3) * 16777216
+    u32::from_le_bytes([b[at], b[at + 1], b[at + 2], b[at + 3]]) as usize
 }
 
 fn put_float(out: &mut [u8], at: usize, x: f32)

@@ -1,20 +1,16 @@
-use mathlib.Core.Path.{ap, ◌∙◌}
+use mathlib.Core.Path.{◌≡◌, ap, ◌∙◌}
+use mathlib.Core.List.{List, [], ◌∷◌}
 use native.Mathlib.Omega.{arith}
-use lib.ListN.{length-set}
-use Rattle.lists.specs.Put.{put}
-use Rattle.lists.proofs.Puts.{put4}
-use Rattle.little.proofs.Laws.{word_bytes}
-use borrow.Author.Rules.{rules}
+use Rattle.std.specs.Prelude.{ℕ, ◌/◌, ◌%◌}
+use Rattle.std.specs.Int.{w32, to_le_bytes}
+use Rattle.lists.proofs.Puts.{put_part}
+use Rattle.little.specs.Little.{le16, le32}
 use Rattle.little.proofs.put_le32.Goals as goal
 
-pub bounds-out-at-2 : goal.bounds-out-at-2
-bounds-out-at-2 c = simp length-set (omega arith)
-
-pub bounds-out-at-3 : goal.bounds-out-at-3
-bounds-out-at-3 c = simp length-set (omega arith)
-
-pub bounds-out-at-4 : goal.bounds-out-at-4
-bounds-out-at-4 c = simp length-set (omega arith)
+low_first : (w : ℕ) → to_le_bytes w32 w ≡ le32 w
+unfolding le16 le32
+low_first w = ap (λ (b : ℕ). w % 256 ∷ w / 256 % 256 ∷ w / 65536 % 256 ∷ b ∷ []) (omega arith)
 
 pub returns : goal.returns
-returns c = put4 _ _ _ _ _ _ ∙ ap (put _ _) (word_bytes _ (omega arith))
+unfolding le16 le32
+returns c = put_part c.args.out.now (le32 c.args.w) c.args.at _ (c.copy_from_slice.ensures.after ∙ c.to_le_bytes.ensures ∙ low_first c.args.w) (omega arith) c.requires
