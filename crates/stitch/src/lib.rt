@@ -36,10 +36,9 @@ fn emit_cap(triangles: &mut [u32], at: usize, center: u32, base: u32, inward: bo
     requires base_bound { base + 8 < 4294967296 }
     ensures { triangles.new ≡ put triangles.old at (cap 8 inward center base) }
 {
-    let mut place = at;
     for k in 0u32..8 {
+        let place = at + k as usize * 3;
         cap_side(triangles, place, center, base, k, inward);
-        place += 3;
     }
 }
 
@@ -50,8 +49,8 @@ fn append_ring_and_stitch(triangles: &mut [u32], at: usize, a: u32, b: u32)
     requires a_bound { (a + 8 < 4294967296) × (b + 8 < 4294967296) }
     ensures { triangles.new ≡ put triangles.old at (band 8 a b) }
 {
-    let mut place = at;
     for k in 0u32..8 {
+        let place = at + k as usize * 6;
         let k1 = (k + 1) % 8;
         let a0 = a + k;
         let a1 = a + k1;
@@ -59,7 +58,6 @@ fn append_ring_and_stitch(triangles: &mut [u32], at: usize, a: u32, b: u32)
         let b1 = b + k1;
         put_corners(triangles, place, a0, b1, b0);
         put_corners(triangles, place + 3, a0, a1, b1);
-        place += 6;
     }
 }
 

@@ -1,5 +1,5 @@
 use mathlib.Core.Path.{◌≡◌, refl, ◌∙◌}
-use Prim.Native.Nat.{◌-◌}
+use Prim.Native.Nat.{◌-◌, ◌+◌, ◌*◌}
 use native.Mathlib.Omega.{arith}
 use Rattle.lists.specs.Put.{put, upto}
 use Rattle.lists.proofs.Puts.{next, turn, kept}
@@ -11,7 +11,7 @@ use Rattle.stitch.proofs.append_ring_and_stitch.Goals as goal
 
 pub loop-k-init : goal.loop-k-init
 unfolding put upto
-loop-k-init c = (omega arith, omega arith, refl)
+loop-k-init c = refl
 
 pub overflow_add-k1 : goal.overflow_add-k1
 overflow_add-k1 c = omega arith
@@ -29,28 +29,25 @@ pub overflow_add-b1 : goal.overflow_add-b1
 overflow_add-b1 c = omega arith
 
 pub put_corners-requires : goal.put_corners-requires
-put_corners-requires c = omega (arith, kept _ _ _ c.loop-k.invariant.2)
+put_corners-requires c = omega (arith, kept _ _ _ c.loop-k.invariant)
 
 pub overflow_add-place : goal.overflow_add-place
-overflow_add-place c = omega (arith, kept _ _ _ c.loop-k.invariant.2)
+overflow_add-place c = omega (arith, kept _ _ _ c.loop-k.invariant)
 
 pub put_corners-requires-in-loop-k : goal.put_corners-requires-in-loop-k
-put_corners-requires-in-loop-k c = omega (arith, kept _ _ _ c.put_corners.ensures, kept _ _ _ c.loop-k.invariant.2)
-
-pub overflow_add-place-in-loop-k : goal.overflow_add-place-in-loop-k
-overflow_add-place-in-loop-k c = omega (arith, kept _ _ _ c.loop-k.invariant.2)
+put_corners-requires-in-loop-k c = omega (arith, kept _ _ _ c.put_corners.ensures, kept _ _ _ c.loop-k.invariant)
 
 pub loop-k-preserved : goal.loop-k-preserved
 unfolding tube.next
 loop-k-preserved c = let loop = c.loop-k in
     let args = c.args in
-    let side = next _ _ loop.place _ _ _ c.put_corners-in-loop-k.ensures c.put_corners.ensures refl in
-    (omega arith, omega arith, turn (band_side 8 args.a args.b) 6 (λ k. refl) _ _ _ loop.k side loop.invariant.2 loop.invariant.1)
+    let side = next _ _ (args.at + loop.k * 6) _ _ _ c.put_corners-in-loop-k.ensures c.put_corners.ensures refl in
+    turn (band_side 8 args.a args.b) 6 (λ k. refl) _ _ _ loop.k side loop.invariant refl
 
 pub shape_of-triangles : goal.shape_of-triangles
-shape_of-triangles c = kept _ _ _ c.loop-k.invariant.2
+shape_of-triangles c = kept _ _ _ c.loop-k.invariant
 
 pub returns : goal.returns
 unfolding band
 returns c = let e : c.loop-k.k ≡ 8 = omega arith in
-    c.loop-k.invariant.2 ∙ rw e
+    c.loop-k.invariant ∙ rw e

@@ -6,4 +6,4 @@ use Rattle.edges.specs.Tube as tube
 use Rattle.stitch.proofs.append_ring_and_stitch.Given as goal
 
 abbrev pub invariant-loop-k : goal.invariant-loop-k
-invariant-loop-k l = (l.k ≤ 8) × (l.place ≡ l.at + l.k * 6) × (l.triangles ≡ put l.initial.triangles l.at (upto (band_side 8 l.a l.b) l.k))
+invariant-loop-k l = l.triangles ≡ put l.initial.triangles l.at (upto (band_side 8 l.a l.b) l.k)
