@@ -33,7 +33,7 @@ fn record_fits(tubes: &[u32], vertex: usize, triangle: usize, i: usize) -> bool
 fn distance(c: u32, low: u32) -> u32
     ensures { result ≡ (c + 4294967296 - low) % 4294967296 }
 {
-    ((c as u64 + 4294967296 - low as u64) % 4294967296) as u32
+    c.wrapping_sub(low)
 }
 
 // 1 where a corner is none of so many vertices from low on, else 0.

@@ -22,20 +22,11 @@ fn oxygen_at(flags: &[u32], at: &[f32], i: usize) -> Oxygen
     Oxygen::At(v.x, v.y, v.z)
 }
 
-fn before(i: usize) -> usize
-    ensures { (result ≡ i - 1) × (result ≤ i) }
-{
-    if i == 0 {
-        return 0;
-    }
-    i - 1
-}
-
 fn tangent_at(ca: &[f32], n: usize, i: usize) -> Vec3
     requires { (i < n) × (3 * n ≤ length ca.now) }
     ensures { result ≡ tangent_at ca.now n i }
 {
-    tangent_of(get_vec(ca, before(i)), get_vec(ca, after(n, i)))
+    tangent_of(get_vec(ca, i.saturating_sub(1)), get_vec(ca, after(n, i)))
 }
 
 fn raw_of(ca: &[f32], flags: &[u32], at: &[f32], n: usize, i: usize) -> Vec3
