@@ -56,13 +56,11 @@ fn signed_guides(flags: &[u32], course: &mut [f32], n: usize)
         ++ signed (take (3 * n) course.old) (oxygen_at flags.now (drop (3 * n) course.old)) n }
 {
     let mut prev = raw_at(flags, course, n, 0);
-    let mut i = 0usize;
-    while i + 1 < n {
+    for i in 0..n - 1 {
         put_vec(course, 3 * n + 3 * i, prev);
         prev = agreeing(prev, raw_at(flags, course, n, i + 1));
-        i += 1;
     }
-    put_vec(course, 3 * n + 3 * i, prev);
+    put_vec(course, 3 * n + 3 * (n - 1), prev);
 }
 
 fn sum(g: &[f32], n: usize) -> Vec3

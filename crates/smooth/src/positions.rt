@@ -11,14 +11,12 @@ fn position_pass(list: &mut [f32], n: usize)
     ensures { list.new ≡ position_pass n list.old }
 {
     let mut prev = get_vec(list, 0);
-    let mut i = 1usize;
-    while i + 1 < n {
+    for i in 1..n - 1 {
         let here = get_vec(list, i);
         let next = get_vec(list, i + 1);
         let smoothed = smooth_position(prev, here, next);
         put_vec(list, 3 * i, smoothed);
         prev = here;
-        i += 1;
     }
 }
 

@@ -1,5 +1,5 @@
 use borrow.Author.Rules.{rules}
-use mathlib.Core.Path.{refl, ◌∙◌}
+use mathlib.Core.Path.{◌≡◌, refl, ◌∙◌}
 use Prim.Native.Nat.{◌+◌, ◌-◌}
 use native.Mathlib.Omega.{arith}
 use Rattle.lists.specs.Put.{put, upto}
@@ -30,9 +30,11 @@ put_vec-requires-2 c = omega (arith, kept _ _ _ c.loop-i.invariant.2)
 pub shape_of-course : goal.shape_of-course
 shape_of-course c =
     let loop = c.loop-i in
-    kept _ _ _ (signed_put _ _ _ loop.i loop.invariant.1 loop.invariant.2 c.put_vec-2.ensures)
+    let e : c.args.n - 1 ≡ loop.i = omega arith in
+    kept _ _ _ (signed_put _ _ _ loop.i loop.invariant.1 loop.invariant.2 (rw e at c.put_vec-2.ensures))
 
 pub returns : goal.returns
 returns c =
     let loop = c.loop-i in
-    signed_whole _ _ (loop.i + 1) _ (signed_put _ _ _ loop.i loop.invariant.1 loop.invariant.2 c.put_vec-2.ensures) (search rules) (omega arith)
+    let e : c.args.n - 1 ≡ loop.i = omega arith in
+    signed_whole _ _ (loop.i + 1) _ (signed_put _ _ _ loop.i loop.invariant.1 loop.invariant.2 (rw e at c.put_vec-2.ensures)) (search rules) (omega arith)

@@ -5,6 +5,3 @@ use Rattle.smooth.proofs.positions.position_pass.Given as goal
 
 abbrev pub invariant-loop-i : goal.invariant-loop-i
 invariant-loop-i l = (1 ≤ l.i) × (l.i + 1 ≤ l.n) × Turned smooth_position l.n 1 (l.i - 1) l.initial.list l.list l.prev
-
-abbrev pub decreases-loop-i : goal.decreases-loop-i
-decreases-loop-i l = l.n - l.i
