@@ -4,8 +4,9 @@
 
 ghost use Rattle.std.specs.Prelude.{◌≡◌, ◌+◌, ◌*◌, ◌/◌, ◌≤◌, ◌<◌, length};
 ghost use Rattle.lists.specs.Put.{put};
-ghost use Rattle.facets.specs.Facets.{Drawn};
 ghost use Rattle.blocks.specs.Blocks.{facets_in, block_at};
+
+use facets::Drawing;
 
 // How many facets block i of a file of t facets has.
 fn facets_in(t: usize, i: usize) -> usize
@@ -20,14 +21,18 @@ fn facets_in(t: usize, i: usize) -> usize
 }
 
 // Block i of a mesh's file at the front of lent bytes, and how long it is.
-pub fn put_block(block: &mut [u8], positions: &[f32], triangles: &[u32], i: usize) -> usize
-    requires { Drawn positions.now triangles.now × (1000 * i < length triangles.now / 3) × (50000 ≤ length block.old) }
-    ensures { (block.new ≡ put block.old 0 (block_at positions.now triangles.now i))
-        × (result ≡ length (block_at positions.now triangles.now i)) × (result ≤ 50000) }
+pub fn put_block(block: &mut [u8], d: &Drawing, i: usize) -> usize
+    requires { (1000 * i < length d.now.triangles.now / 3) × (50000 ≤ length block.old) }
+    ensures { (block.new ≡ put block.old 0 (block_at d.now.positions.now d.now.triangles.now i))
+        × (result ≡ length (block_at d.now.positions.now d.now.triangles.now i)) × (result ≤ 50000) }
 {
-    let n = facets_in(triangles.len() / 3, i);
+    let n = facets_in(d.triangles.len() / 3, i);
     let from = 3000 * i;
     let to = from + 3 * n;
-    facets::put_facets(block, 0, positions, &triangles[from..to]);
+    let part = Drawing {
+        positions: d.positions,
+        triangles: &d.triangles[from..to],
+    };
+    facets::put_facets(block, 0, &part);
     50 * n
 }

@@ -7,6 +7,14 @@ ghost use Rattle.facets.specs.Facets.{facet_normal, facet_bytes, corner_at, face
 
 use vectors::{Vec3, get_vec};
 
+// A triangle list, of a whole mesh or of a part of it, and the positions of the vertices that it names.
+#[derive(Clone, Copy)]
+pub struct Drawing<'a> {
+    pub positions: &'a [f32],
+    pub triangles: &'a [u32],
+    ghost drawn: { Drawn positions.now triangles.now },
+}
+
 fn facet_normal(a: Vec3, b: Vec3, c: Vec3) -> Vec3
     ensures { result ≡ facet_normal a b c }
 {
@@ -34,25 +42,27 @@ fn put_facet(out: &mut [u8], at: usize, a: Vec3, b: Vec3, c: Vec3)
     put_zeros(out, at + 48);
 }
 
-// Where corner j of a triangle list stands.
-fn corner(positions: &[f32], triangles: &[u32], j: usize) -> Vec3
-    requires { Drawn positions.now triangles.now × (j < length triangles.now) }
-    ensures { result ≡ corner_at positions.now triangles.now j }
-{
-    get_vec(positions, triangles[j] as usize)
+impl Drawing<'_> {
+    // Where corner j of the list stands.
+    fn corner(&self, j: usize) -> Vec3
+        requires { j < length self.now.triangles.now }
+        ensures { result ≡ corner_at self.now.positions.now self.now.triangles.now j }
+    {
+        get_vec(self.positions, self.triangles[j] as usize)
+    }
 }
 
-// The facets of a triangle list, from place `at` on: of a whole mesh, or of a part of it, so that a file can be written block by block.
-pub fn put_facets(out: &mut [u8], at: usize, positions: &[f32], triangles: &[u32])
-    requires { Drawn positions.now triangles.now × (at + 50 * (length triangles.now / 3) ≤ length out.old) }
+// The facets of a drawing, from place `at` on.
+pub fn put_facets(out: &mut [u8], at: usize, d: &Drawing)
+    requires { at + 50 * (length d.now.triangles.now / 3) ≤ length out.old }
     ensures { out.new ≡ put out.old at
-        (facets_of positions.now triangles.now (length triangles.now / 3)) }
+        (facets_of d.now.positions.now d.now.triangles.now (length d.now.triangles.now / 3)) }
 {
-    let n = triangles.len() / 3;
+    let n = d.triangles.len() / 3;
     for i in 0..n {
-        let a = corner(positions, triangles, 3 * i);
-        let b = corner(positions, triangles, 3 * i + 1);
-        let c = corner(positions, triangles, 3 * i + 2);
+        let a = d.corner(3 * i);
+        let b = d.corner(3 * i + 1);
+        let c = d.corner(3 * i + 2);
         put_facet(out, at + 50 * i, a, b, c);
     }
 }

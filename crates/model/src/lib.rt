@@ -9,6 +9,7 @@ ghost use Rattle.facets.specs.Facets.{Drawn};
 ghost use Rattle.model.specs.Ready.{Ready};
 
 use buffers::Counts;
+use facets::Drawing;
 use job::{Checked, Refusal};
 use pdb_reader::Read;
 use promises::Built;
@@ -55,18 +56,13 @@ fn refuse(file: &[u8], r: Refusal, more: bool) -> Made {
 }
 
 // The facets of a mesh, block after block.
-fn send_facets(
-    to: Stdout,
-    positions: &[f32],
-    triangles: &[u32],
-    block: &mut [u8],
-) -> Result<(), i32>
-    requires { Drawn positions.now triangles.now × (50000 ≤ length block.old) }
+fn send_facets(to: Stdout, d: &Drawing, block: &mut [u8]) -> Result<(), i32>
+    requires { 50000 ≤ length block.old }
 {
-    let t = triangles.len() / 3;
+    let t = d.triangles.len() / 3;
     let mut i = 0;
     while 1000 * i < t {
-        let n = blocks::put_block(block, positions, triangles, i);
+        let n = blocks::put_block(block, d, i);
         files::write(to, &block[..n])?;
         i += 1;
     }
@@ -74,12 +70,12 @@ fn send_facets(
 }
 
 // Writes the whole file, or answers the system's number for why not.
-fn send_file(to: Stdout, positions: &[f32], triangles: &[u32], block: &mut [u8]) -> Result<(), i32>
-    requires { Drawn positions.now triangles.now × (length triangles.now ≤ 6291456) × (50000 ≤ length block.old) }
+fn send_file(to: Stdout, d: &Drawing, block: &mut [u8]) -> Result<(), i32>
+    requires { (length d.now.triangles.now ≤ 6291456) × (50000 ≤ length block.old) }
 {
-    facets::put_head(block, (triangles.len() / 3) as u32);
+    facets::put_head(block, (d.triangles.len() / 3) as u32);
     files::write(to, &block[..84])?;
-    send_facets(to, positions, triangles, block)
+    send_facets(to, d, block)
 }
 
 // What was read of a file.
@@ -132,7 +128,11 @@ fn send_model(positions: &mut [f32], triangles: &[u32], block: &mut [u8], w: Wis
     requires { Drawn positions.old triangles.now × (length triangles.now ≤ 6291456) × (50000 ≤ length block.old) }
 {
     scaling::scale_positions(positions, w.factor);
-    if let Err(why) = send_file(w.to, positions, triangles, block) {
+    let d = Drawing {
+        positions,
+        triangles,
+    };
+    if let Err(why) = send_file(w.to, &d, block) {
         files::fail(b"ribbon: the model cannot be written", why);
         return Made::Failed;
     }

@@ -5,6 +5,7 @@ ghost use Rattle.buffers.specs.Outs.{outs};
 ghost use Rattle.stl_writer.specs.Call.{WritesStl};
 
 use buffers::Counts;
+use facets::Drawing;
 use job::Refusal;
 
 // Of six mesh buffers and the counts K, V and T that came with them.
@@ -37,6 +38,10 @@ pub fn write_stl(
         return Err(Refusal::NoStlRoom(size));
     }
     facets::put_head(out, t as u32);
-    facets::put_facets(out, 84, positions, &triangles[..3 * t]);
+    let mesh = Drawing {
+        positions,
+        triangles: &triangles[..3 * t],
+    };
+    facets::put_facets(out, 84, &mesh);
     Ok(size)
 }

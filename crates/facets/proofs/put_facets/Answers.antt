@@ -16,28 +16,28 @@ unfolding put upto facets_of
 loop-i-init c = (omega arith, refl, refl)
 
 pub corner-a-requires : goal.corner-a-requires
-corner-a-requires c = (c.requires.0, omega (arith, c.loop-i.invariant.1))
+corner-a-requires c = omega (arith, c.loop-i.invariant.1)
 
 pub corner-b-requires : goal.corner-b-requires
-corner-b-requires c = (c.requires.0, omega (arith, c.loop-i.invariant.1))
+corner-b-requires c = omega (arith, c.loop-i.invariant.1)
 
 pub corner-c-requires : goal.corner-c-requires
-corner-c-requires c = (c.requires.0, omega (arith, c.loop-i.invariant.1))
+corner-c-requires c = omega (arith, c.loop-i.invariant.1)
 
 pub put_facet-requires : goal.put_facet-requires
-put_facet-requires c = omega (arith, c.requires.1, c.loop-i.invariant.1, kept _ _ _ c.loop-i.invariant.2)
+put_facet-requires c = omega (arith, c.requires, c.loop-i.invariant.1, kept _ _ _ c.loop-i.invariant.2)
 
 pub loop-i-preserved : goal.loop-i-preserved
 unfolding facets_of
 loop-i-preserved c =
     let args = c.args in
     let loop = c.loop-i in
-    (omega arith, loop.invariant.1, turn (facet_at args.positions.now args.triangles.now) 50 (long_at args.positions.now args.triangles.now) _ _ _ _ (c.put_facet.ensures ∙ ap (put loop.out (args.at + 50 * loop.i)) (facet_made args.positions.now args.triangles.now loop.i _ _ _ c.corner-a.ensures c.corner-b.ensures c.corner-c.ensures)) loop.invariant.2 (omega arith))
+    (omega arith, loop.invariant.1, turn (facet_at args.d.now.positions.now args.d.now.triangles.now) 50 (long_at args.d.now.positions.now args.d.now.triangles.now) _ _ _ _ (c.put_facet.ensures ∙ ap (put loop.out (args.at + 50 * loop.i)) (facet_made args.d.now.positions.now args.d.now.triangles.now loop.i _ _ _ c.corner-a.ensures c.corner-b.ensures c.corner-c.ensures)) loop.invariant.2 (omega arith))
 
 pub shape_of-out : goal.shape_of-out
 shape_of-out c = kept _ _ _ c.loop-i.invariant.2
 
 pub returns : goal.returns
 returns c =
-    let e : c.loop-i.i ≡ length c.args.triangles.now / 3 = omega (arith, c.loop-i.invariant.1) in
+    let e : c.loop-i.i ≡ length c.args.d.now.triangles.now / 3 = omega (arith, c.loop-i.invariant.1) in
     c.loop-i.invariant.2 ∙ rw e

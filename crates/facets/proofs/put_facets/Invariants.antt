@@ -12,4 +12,4 @@ use borrow.Author.Rules.{rules}
 use Rattle.facets.proofs.put_facets.Given as goal
 
 abbrev pub invariant-loop-i : goal.invariant-loop-i
-invariant-loop-i l = (l.i ≤ l.n) × (l.n ≡ length l.triangles / 3) × (l.out ≡ put l.initial.out l.at (facets_of l.positions l.triangles l.i))
+invariant-loop-i l = (l.i ≤ l.n) × (l.n ≡ length l.d.triangles.now / 3) × (l.out ≡ put l.initial.out l.at (facets_of l.d.positions.now l.d.triangles.now l.i))

@@ -7,7 +7,7 @@ use borrow.Author.Rules.{rules}
 use Rattle.model.proofs.send_facets.Given as goal
 
 abbrev pub invariant-loop-i : goal.invariant-loop-i
-invariant-loop-i l = (l.t ≡ length l.triangles / 3) × (1000 * l.i ≤ l.t + 999) × (50000 ≤ length l.block) × (length l.block ≡ length l.initial.block)
+invariant-loop-i l = (l.t ≡ length l.d.triangles.now / 3) × (1000 * l.i ≤ l.t + 999) × (50000 ≤ length l.block) × (length l.block ≡ length l.initial.block)
 
 abbrev pub decreases-loop-i : goal.decreases-loop-i
 decreases-loop-i l = l.t - 1000 * l.i

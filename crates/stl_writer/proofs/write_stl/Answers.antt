@@ -44,19 +44,26 @@ overflow_cast-t c =
     let y : consistent 8 8 o a.c ≡ true = sym c.is_consistent.ensures ∙ c.if-not-is_consistent.false in
     omega (arith, few o a.c y)
 
-pub slice_bounds-put_facets-end : goal.slice_bounds-put_facets-end
-slice_bounds-put_facets-end c =
+pub slice_bounds-mesh-end : goal.slice_bounds-mesh-end
+slice_bounds-mesh-end c =
     let a = c.args in
     let o = outs a.positions.now a.normals.now a.tags.now a.triangles.now a.tubes.now a.boxes.now in
     let y : consistent 8 8 o a.c ≡ true = sym c.is_consistent.ensures ∙ c.if-not-is_consistent.false in
     omega (arith, length-take (3 * a.c.triangles) a.triangles.now, corners_there o a.c y)
+
+pub invariant_of-mesh : goal.invariant_of-mesh
+invariant_of-mesh c =
+    let a = c.args in
+    let o = outs a.positions.now a.normals.now a.tags.now a.triangles.now a.tubes.now a.boxes.now in
+    let y : consistent 8 8 o a.c ≡ true = sym c.is_consistent.ensures ∙ c.if-not-is_consistent.false in
+    record { drawn = drawn o a.c y }
 
 pub put_facets-requires : goal.put_facets-requires
 put_facets-requires c =
     let a = c.args in
     let o = outs a.positions.now a.normals.now a.tags.now a.triangles.now a.tubes.now a.boxes.now in
     let y : consistent 8 8 o a.c ≡ true = sym c.is_consistent.ensures ∙ c.if-not-is_consistent.false in
-    (drawn o a.c y, omega (arith, length-take (3 * a.c.triangles) a.triangles.now, corners_there o a.c y, c.put_head.auto.out, c.if-out-size.false))
+    omega (arith, length-take (3 * a.c.triangles) a.triangles.now, corners_there o a.c y, c.put_head.auto.out, c.if-out-size.false)
 
 pub returns : goal.returns
 returns c =
