@@ -139,12 +139,10 @@ pub fn first_inside(b: &[u8], h: Head, g: Range, from: usize, to: usize) -> usiz
     if g.stop < g.start {
         return to;
     }
-    let mut a = from;
-    while a < to {
+    for a in from..to {
         if is_within(g, protein::serial(b, h, a)) {
             return a;
         }
-        a += 1;
     }
     to
 }
