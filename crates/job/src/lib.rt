@@ -116,12 +116,10 @@ pub fn find_visibility(b: &[u8], h: Head) -> usize
     ensures { result ≡ first (bad_visibility b.now h) h.chains }
 {
     let n = h.chains as usize;
-    let mut i = 0;
-    while i < n {
+    for i in 0..n {
         if 1 < b[13 + i] {
             return i + 1;
         }
-        i += 1;
     }
     0
 }
@@ -130,12 +128,10 @@ pub fn find_kind(q: &[u8]) -> usize
     ensures { result ≡ first (bad_kind q.now) (segments_of q.now).count }
 {
     let n = q.len() / 9;
-    let mut i = 0;
-    while i < n {
+    for i in 0..n {
         if 2 < protein::kind(q, i) {
             return i + 1;
         }
-        i += 1;
     }
     0
 }
@@ -167,12 +163,10 @@ pub fn find_atom(b: &[u8], h: Head) -> usize
     ensures { result ≡ first (bad_atom b.now h) h.atoms }
 {
     let n = h.atoms as usize;
-    let mut i = 0;
-    while i < n {
+    for i in 0..n {
         if is_bad_atom(b, h, i) {
             return i + 1;
         }
-        i += 1;
     }
     0
 }
@@ -212,12 +206,10 @@ pub fn find_coordinate(b: &[u8], h: Head) -> usize
     ensures { result ≡ first (bad_coordinate b.now h) h.atoms }
 {
     let n = h.atoms as usize;
-    let mut i = 0;
-    while i < n {
+    for i in 0..n {
         if is_bad_coordinate(b, h, i) {
             return i + 1;
         }
-        i += 1;
     }
     0
 }

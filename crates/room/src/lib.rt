@@ -46,10 +46,8 @@ fn clear_floats(f: &mut [f32], n: usize)
     requires { n ≤ length f.old }
     ensures { f.new ≡ zeroed (of_bits binary32 0) n f.old }
 {
-    let mut i = 0;
-    while i < n {
+    for i in 0..n {
         f[i] = 0.0;
-        i += 1;
     }
 }
 

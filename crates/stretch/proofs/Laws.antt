@@ -23,15 +23,15 @@ use Rattle.lists.proofs.Bools.{clash, and_left, and_right}
 pub up_one : (f : ℕ → ℕ) (m : ℕ) → Up f m (m + 1)
 up_one f m i j l h k = let x : i ≡ j = omega arith in rw x (omega arith)
 
-pub up_more : (f : ℕ → ℕ) (m a : ℕ) → Up f m (a + 1) → f a ≤ f (a + 1) → Up f m (a + 1 + 1)
-up_more f m a U s i j l h k =
+pub up_more : (f : ℕ → ℕ) (m a : ℕ) → m < a → Up f m a → f (a - 1) ≤ f a → Up f m (a + 1)
+up_more f m a p U s i j l h k =
     ⊎_elim
-    (λ q. let x : j ≡ a + 1 = q in rw x (last i l (subst (λ (n : ℕ). i ≤ n) x h)))
+    (λ q. let x : j ≡ a = q in rw x (last i l (subst (λ (n : ℕ). i ≤ n) x h)))
     (λ n. U i j l h (omega arith))
     (eq-or-lt_of_le (le_of_suc-le-suc (rw add-one at k)))
   where
-    last : (i : ℕ) → m ≤ i → i ≤ a + 1 → f i ≤ f (a + 1)
-    last i l h = ⊎_elim (λ q. let x : i ≡ a + 1 = q in rw x (omega arith)) (λ n. let z = U i a l (omega arith) (omega arith) in omega arith) (eq-or-lt_of_le h)
+    last : (i : ℕ) → m ≤ i → i ≤ a → f i ≤ f a
+    last i l h = ⊎_elim (λ q. let x : i ≡ a = q in rw x (omega arith)) (λ n. let z = U i (a - 1) l (omega arith) (omega arith) in omega arith) (eq-or-lt_of_le h)
 
 pub inside_start : (g : Range) (v : ℕ) → inside g v ≡ true → g.start ≤ v
 unfolding inside

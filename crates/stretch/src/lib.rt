@@ -64,12 +64,10 @@ fn end_of_run(b: &[u8], h: Head, from: usize) -> usize
     ensures { Run (job_of b.now h) from result }
 {
     let n = h.atoms as usize;
-    let mut a = from;
-    while a + 1 < n {
-        if protein::serial(b, h, a + 1) < protein::serial(b, h, a) {
-            return a + 1;
+    for a in from + 1..n {
+        if protein::serial(b, h, a) < protein::serial(b, h, a - 1) {
+            return a;
         }
-        a += 1;
     }
     n
 }
@@ -139,12 +137,10 @@ pub fn first_inside(b: &[u8], h: Head, g: Range, from: usize, to: usize) -> usiz
     if g.stop < g.start {
         return to;
     }
-    let mut a = from;
-    while a < to {
+    for a in from..to {
         if is_within(g, protein::serial(b, h, a)) {
             return a;
         }
-        a += 1;
     }
     to
 }
@@ -157,12 +153,10 @@ fn past_inside(b: &[u8], h: Head, g: Range, from: usize) -> usize
     if g.stop < g.start {
         return from;
     }
-    let mut a = h.atoms as usize;
-    while from < a {
-        if is_within(g, protein::serial(b, h, a - 1)) {
-            return a;
+    for a in (from..h.atoms as usize).rev() {
+        if is_within(g, protein::serial(b, h, a)) {
+            return a + 1;
         }
-        a -= 1;
     }
     from
 }
@@ -233,10 +227,8 @@ pub fn span(b: &[u8], h: Head, atoms: Part) -> Part
         return Part { from: 0, to: n };
     }
     let mut p = Part { from: n, to: 0 };
-    let mut a = atoms.from;
-    while a < end {
+    for a in atoms.from..end {
         p = widened(p, n, protein::residue(b, h, a));
-        a += 1;
     }
     if p.to < p.from {
         return Part { from: 0, to: 0 };

@@ -113,10 +113,8 @@ pub fn fill(b: &[u8], h: Head, which: Which, w: Want, t: &mut [u32], base: usize
         to: h.residues as usize,
     };
     let n = h.atoms as usize;
-    let mut a = 0;
-    while a < n {
+    for a in 0..n {
         note(b, h, which, w, a, residues, t, base);
-        a += 1;
     }
 }
 
@@ -207,12 +205,10 @@ pub fn to_chains(b: &[u8], h: Head, t: &mut [u32])
     ensures { Filled (chain_of (job_of b.now h)) 0 h.residues t.old t.new }
 {
     let n = h.residues as usize;
-    let mut i = 0;
-    while i < n {
+    for i in 0..n {
         let a = t[i] as usize;
         if a != 0 {
             t[i] = (protein::chain(b, h, a - 1) + 1) as u32;
         }
-        i += 1;
     }
 }

@@ -36,12 +36,6 @@ offset_bounds-t-marks c = omega (arith, c.requires.0.few_residues)
 pub bounds-t-marks : goal.bounds-t-marks
 bounds-t-marks c = omega (arith, c.loop-r.invariant.1.size, c.requires.1.size)
 
-pub overflow_add-r : goal.overflow_add-r
-overflow_add-r c = omega (arith, c.requires.0.few_residues)
-
-pub loop-r-smaller : goal.loop-r-smaller
-loop-r-smaller c = omega arith
-
 pub loop-r-preserved : goal.loop-r-preserved
 loop-r-preserved c =
     let args = c.args in

@@ -7,6 +7,3 @@ use Rattle.coils.proofs.mark_loose.Given as goal
 
 abbrev pub invariant-loop-r : goal.invariant-loop-r
 invariant-loop-r l = (l.r ≤ l.h.residues) × Filled (λ k. bit (loose (job_of l.b l.h) (covered_in l.initial.t l.h.residues) k)) (2 * l.h.residues) l.r l.initial.t l.t
-
-abbrev pub decreases-loop-r : goal.decreases-loop-r
-decreases-loop-r l = l.h.residues - l.r

@@ -6,6 +6,3 @@ use Rattle.job.proofs.find_coordinate.Given as goal
 
 abbrev pub invariant-loop-i : goal.invariant-loop-i
 invariant-loop-i l = (l.i ≤ l.n) × ((k : ℕ) → k < l.i → bad_coordinate l.b l.h k ≡ false)
-
-abbrev pub decreases-loop-i : goal.decreases-loop-i
-decreases-loop-i l = l.n - l.i

@@ -6,6 +6,3 @@ use Rattle.job.proofs.find_kind.Given as goal
 
 abbrev pub invariant-loop-i : goal.invariant-loop-i
 invariant-loop-i l = (l.i ≤ l.n) × ((k : ℕ) → k < l.i → bad_kind l.q k ≡ false)
-
-abbrev pub decreases-loop-i : goal.decreases-loop-i
-decreases-loop-i l = l.n - l.i

@@ -7,6 +7,3 @@ use Rattle.job.proofs.find_visibility.Given as goal
 
 abbrev pub invariant-loop-i : goal.invariant-loop-i
 invariant-loop-i l = (l.i ≤ l.n) × ((k : ℕ) → k < l.i → ltb 1 (get_or l.b (13 + k) 0) ≡ false)
-
-abbrev pub decreases-loop-i : goal.decreases-loop-i
-decreases-loop-i l = l.n - l.i

@@ -5,6 +5,3 @@ use Rattle.stretch.proofs.first_inside.Given as goal
 
 abbrev pub invariant-loop-a : goal.invariant-loop-a
 invariant-loop-a l = (l.from ≤ l.a) × Outside (job_of l.b l.h) l.g l.from l.a
-
-abbrev pub decreases-loop-a : goal.decreases-loop-a
-decreases-loop-a l = l.to - l.a

@@ -18,7 +18,7 @@ is_within-requires c =
     (c.if-g.false, c.requires.2, omega (arith, c.serial.ensures, serial_few args.b.now args.h (c.loop-a.a - 1) (λ i. omega (arith, c.type_inv.b i))))
 
 pub returns-then-is_within : goal.returns-then-is_within
-returns-then-is_within c = (omega arith, omega arith, c.loop-a.invariant.2)
+returns-then-is_within c = (omega arith, omega arith, λ a l m. c.loop-a.invariant.2 a (omega arith) m)
 
 pub loop-a-preserved : goal.loop-a-preserved
 loop-a-preserved c =

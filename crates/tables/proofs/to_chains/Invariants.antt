@@ -6,6 +6,3 @@ use Rattle.tables.proofs.to_chains.Given as goal
 
 abbrev pub invariant-loop-i : goal.invariant-loop-i
 invariant-loop-i l = (l.i ≤ l.n) × Filled (chain_of (job_of l.b l.h)) 0 l.i l.initial.t l.t
-
-abbrev pub decreases-loop-i : goal.decreases-loop-i
-decreases-loop-i l = l.n - l.i

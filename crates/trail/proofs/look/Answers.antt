@@ -20,29 +20,29 @@ pub overflow_add-at : goal.overflow_add-at
 overflow_add-at c =
     let args = c.args in
     let pre = c.requires in
-    let f = to_few (job_of args.b.now args.h) (segments_of args.q.now) (far_by (place_of args.b.now args.h)) args.scratch.now args.c pre.1 _ c.next_piece-step.ensures _ _ c.in-Piece.is in
+    let f = to_few (job_of args.b.now args.h) (segments_of args.q.now) (far_by (place_of args.b.now args.h)) args.scratch.now args.c pre.1 _ c.next_piece-step.ensures _ c.in-Some.is in
     omega (arith, f.0, f.1, pre.1.stands.few, pre.0.few_residues)
 
 pub returns-then-to-at : goal.returns-then-to-at
 returns-then-to-at c =
     let args = c.args in
-    (kept_refl _ _ _, short_here (job_of args.b.now args.h) (segments_of args.q.now) (far_by (place_of args.b.now args.h)) args.scratch.now args.c c.requires.1 _ c.next_piece-step.ensures _ _ c.in-Piece.is c.if-to-at.true)
+    (kept_refl _ _ _, short_here (job_of args.b.now args.h) (segments_of args.q.now) (far_by (place_of args.b.now args.h)) args.scratch.now args.c c.requires.1 _ c.next_piece-step.ensures _ c.in-Some.is c.if-to-at.true)
 
 pub overflow_add-result : goal.overflow_add-result
 overflow_add-result c =
     let args = c.args in
     let pre = c.requires in
-    let f = to_few (job_of args.b.now args.h) (segments_of args.q.now) (far_by (place_of args.b.now args.h)) args.scratch.now args.c pre.1 _ c.next_piece-step.ensures _ _ c.in-Piece.is in
+    let f = to_few (job_of args.b.now args.h) (segments_of args.q.now) (far_by (place_of args.b.now args.h)) args.scratch.now args.c pre.1 _ c.next_piece-step.ensures _ c.in-Some.is in
     omega (arith, f.0, f.1, pre.1.stands.few, pre.0.few_residues, c.frames_at-list.ensures, frames_low args.c.source args.h.residues)
 
 pub overflow_add-result-2 : goal.overflow_add-result-2
 overflow_add-result-2 c =
     let args = c.args in
     let pre = c.requires in
-    let f = to_few (job_of args.b.now args.h) (segments_of args.q.now) (far_by (place_of args.b.now args.h)) args.scratch.now args.c pre.1 _ c.next_piece-step.ensures _ _ c.in-Piece.is in
+    let f = to_few (job_of args.b.now args.h) (segments_of args.q.now) (far_by (place_of args.b.now args.h)) args.scratch.now args.c pre.1 _ c.next_piece-step.ensures _ c.in-Some.is in
     omega (arith, f.0, f.1, pre.1.stands.few, pre.0.few_residues, c.frames_at-list.ensures, frames_low args.c.source args.h.residues)
 
 pub returns : goal.returns
 returns c =
     let args = c.args in
-    (kept_refl _ _ _, tube_here (job_of args.b.now args.h) (segments_of args.q.now) (far_by (place_of args.b.now args.h)) args.scratch.now args.c c.requires.1 _ c.next_piece-step.ensures _ _ c.in-Piece.is c.frames_at-list.result c.frames_at-list.ensures c.if-to-at.false)
+    (kept_refl _ _ _, tube_here (job_of args.b.now args.h) (segments_of args.q.now) (far_by (place_of args.b.now args.h)) args.scratch.now args.c c.requires.1 _ c.next_piece-step.ensures _ c.in-Some.is c.frames_at-list.result c.frames_at-list.ensures c.if-to-at.false)

@@ -37,4 +37,4 @@ loop-e-preserved c =
     (omega arith, (omega arith, (below_more _ _ c.loop-e.invariant.1.1.0 (λ m. sym (rw (c.loop-e.invariant.1.1.1, c.place_of-next.ensures) at c.is_long.ensures) ∙ c.if-is_long.false), c.place_of-next.ensures ∙ ap (λ (k : ℕ). place_of args.b.now args.h (get_or args.alphas.now (get_or args.run.now k 0) 0)) (omega arith))))
 
 pub returns : goal.returns
-returns c = (omega arith, omega arith, piece_at _ _ _ _ (omega arith) (omega arith) c.loop-e.invariant.1.1.0 (λ l. absurd (omega arith)))
+returns c = (omega arith, omega arith, piece_at _ _ _ _ (omega arith) (omega arith) (λ j l m. c.loop-e.invariant.1.1.0 j (omega arith) m) (λ l. absurd (omega arith)))

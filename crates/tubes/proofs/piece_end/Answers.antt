@@ -25,4 +25,4 @@ pub loop-e-preserved : goal.loop-e-preserved
 loop-e-preserved c = (omega arith, (omega arith, below_more _ _ c.loop-e.invariant.1.1 (λ m. sym c.is_apart.ensures ∙ c.if-is_apart.false)))
 
 pub returns : goal.returns
-returns c = (omega arith, omega arith, piece_at _ _ _ _ (omega arith) (omega arith) c.loop-e.invariant.1.1 (λ l. absurd (omega arith)))
+returns c = (omega arith, omega arith, piece_at _ _ _ _ (omega arith) (omega arith) (λ j l m. c.loop-e.invariant.1.1 j (omega arith) m) (λ l. absurd (omega arith)))
