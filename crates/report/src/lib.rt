@@ -23,26 +23,14 @@ pub fn say_number(name: &[u8], n: usize) {
     io::print_decimal(STDERR_FILENO, n as u64);
 }
 
-// 1 where two numbers are the same.
-fn count_same(a: usize, b: usize) -> usize
-    ensures { result ≤ 1 }
-{
-    if a == b {
-        return 1;
-    }
-    0
-}
-
 // How many of the segment records are of a kind: 1 a helix, 2 a strand of a sheet.
 fn count_kind(records: &[u8], kind: usize) -> usize
     ensures { result ≤ length records.now }
 {
     let segments = records.len() / 9;
-    let mut i = 0;
     let mut n = 0;
-    while i < segments {
-        n += count_same(protein::kind(records, i), kind);
-        i += 1;
+    for i in 0..segments {
+        n += usize::from(protein::kind(records, i) == kind);
     }
     n
 }
@@ -68,18 +56,9 @@ pub fn tell_built(c: Counts) {
     say(b", closed: proved\n");
 }
 
-fn lesser(a: f32, b: f32) -> f32 {
-    if b < a {
-        return b;
-    }
-    a
-}
-
+// f32's own `max` passes over a NaN; here a NaN in front stays.
 fn greater(a: f32, b: f32) -> f32 {
-    if a < b {
-        return b;
-    }
-    a
+    if a < b { b } else { a }
 }
 
 // How long a model is on an axis, by the boxes of its tubes, which hold every vertex.
@@ -92,11 +71,15 @@ fn side(boxes: &[f32], axis: usize) -> f32
     }
     let mut low = boxes[axis];
     let mut high = boxes[3 + axis];
-    let mut k = 1;
-    while k < n {
-        low = lesser(low, boxes[6 * k + axis]);
-        high = greater(high, boxes[6 * k + 3 + axis]);
-        k += 1;
+    for k in 1..n {
+        let front = boxes[6 * k + axis];
+        let back = boxes[6 * k + 3 + axis];
+        if front < low {
+            low = front;
+        }
+        if high < back {
+            high = back;
+        }
     }
     high - low
 }
