@@ -1,4 +1,5 @@
 -- A refusal is told by its numbers: no two have the same number with the same values (01, 'Refusal numbers'; 02 §1, §4, §5). Assumes nothing.
+use Rattle.std.specs.Prelude.{Result, Ok, Err}
 use Prim.Native.Nat.{ℕ}
 use mathlib.Core.Bool.{false, cond}
 use Rattle.lists.proofs.Bools.{clash}
@@ -6,7 +7,7 @@ use mathlib.Core.List.{List}
 use mathlib.Core.Path.{◌≡◌, refl, sym, ap, ◌∙◌}
 use lib.Dec.{eqb}
 use lib.ListN.{get_or}
-use Rattle.job.specs.Refusals.{number_of, refusal_numbers}
+use Rattle.job.specs.Refusals.{number_of, refusal_numbers, size_numbers}
 use Rattle.job.specs.declared.Refusal.{Refusal}
 use Rattle.job.specs.declared.Refusal.TheVariants.{BadLength, BadVersion, BadCounts, BadSize, BadVisibility, BadKind, BadAtom, BadCoordinate, NoScratch, TooManyVertices, NoRoom, ShortLine, BadNumber, AbsentResidue, PastLimits, NoJobRoom, Inconsistent, NoStlRoom, NotStl, BadShares}
 
@@ -88,3 +89,10 @@ not_zero BadShares = refl
 
 pub zero_not : (r : Refusal) → 0 ≡ number_of r → ⊥
 zero_not r e = clash (ap (λ (n : ℕ). eqb n 0) (sym e)) (not_zero r)
+
+-- an answer of one number is told by its numbers
+pub size_told : (r q : Result ℕ Refusal) → size_numbers r ≡ size_numbers q → r ≡ q
+size_told (Ok n) (Ok m) e = ap (λ (l : List ℕ). Ok (get_or l 1 0)) e
+size_told (Ok n) (Err q) e = absurd (zero_not q (ap (λ (l : List ℕ). get_or l 0 0) e))
+size_told (Err r) (Ok m) e = absurd (zero_not r (sym (ap (λ (l : List ℕ). get_or l 0 0) e)))
+size_told (Err r) (Err q) e = ap Err (told r q e)

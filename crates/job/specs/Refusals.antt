@@ -1,5 +1,5 @@
 -- The refusals of every call: the number and the carried values of each (01, 'Refusal numbers'; 02 §1, §4 and §5, 'Refusals').
-use Rattle.std.specs.Prelude.{ℕ, List, [], ◌∷◌, get_or}
+use Rattle.std.specs.Prelude.{ℕ, List, [], ◌∷◌, get_or, Result, Ok, Err}
 use Rattle.job.specs.declared.Refusal.{Refusal}
 use Rattle.job.specs.declared.Refusal.TheVariants.{BadLength, BadVersion, BadCounts, BadSize, BadVisibility, BadKind, BadAtom, BadCoordinate, NoScratch, TooManyVertices, NoRoom, ShortLine, BadNumber, AbsentResidue, PastLimits, NoJobRoom, Inconsistent, NoStlRoom, NotStl, BadShares}
 
@@ -56,3 +56,8 @@ three l = get_or l 0 0 ∷ get_or l 1 0 ∷ get_or l 2 0 ∷ []
 -- a refusal as four numbers, by which promises, programs and the calls for C say it: its own, and what it carries, with 0 where there is nothing
 abbrev pub refusal_numbers : Refusal → List ℕ
 refusal_numbers r = number_of r ∷ three (carried r)
+
+-- an answer that is one number, the size of what was written or listed, as four: 0, the number, 0, 0; or a refusal's
+abbrev pub size_numbers : Result ℕ Refusal → List ℕ
+size_numbers (Ok n) = 0 ∷ n ∷ 0 ∷ 0 ∷ []
+size_numbers (Err r) = refusal_numbers r

@@ -8,7 +8,7 @@ use native.Mathlib.Nat.{mod-eq_of_lt}
 use native.Mathlib.Omega.{arith}
 use lib.ListN.{length, get_or, take}
 use Rattle.protein.specs.Layout.{head_of}
-use Rattle.job.specs.Refusals.{number_of}
+use Rattle.job.specs.Refusals.{number_of, size_numbers}
 use Rattle.job.specs.declared.Refusal.{Refusal}
 use Rattle.job.specs.declared.Refusal.TheVariants.{NoRoom, NoJobRoom, NoStlRoom}
 use Rattle.pdb_reader.specs.declared.Read.TheVariants.{Written, NoJob}
@@ -19,9 +19,9 @@ use Rattle.mesh.specs.Mesh.{vertex_sum, triangle_sum}
 use Rattle.walk.specs.declared.Five.{Five}
 use Rattle.buffers.specs.declared.Counts.{Counts}
 use Rattle.buffers.specs.Outs.{Outs}
-use Rattle.stl_writer.specs.Call.{wrote_numbers, WritesStl}
+use Rattle.stl_writer.specs.Call.{WritesStl}
 use Rattle.stl_writer.proofs.Demands.{write_determined, file_size_below, needed_below as stl-needed-below}
-use Rattle.stl_reader.specs.Call.{Lists, listed_numbers, ReadsStl}
+use Rattle.stl_reader.specs.Call.{Lists, ReadsStl}
 use Rattle.stl_reader.proofs.Demands.{list_determined, count_below, asked_below}
 use Rattle.room.specs.Room.{Scratch, Buffers}
 use Rattle.room.proofs.Laws.{buffers_same}
@@ -126,17 +126,17 @@ pub needed_fits : {s out out' : List ℕ} {n : ℕ} → Reads s out (NoJob (NoJo
 needed_fits {n = n} R = rw (word_same n (needed_below R))
 
 -- the size of an STL file, and the one that refusal 18 carries; the count of a file that was listed, and the one that 18 carries
-pub stl_fits : {o : Outs} {c : Counts} {out out' : List ℕ} {n : ℕ} → WritesStl 8 8 o c out (Ok n) out' → words_of (wrote_numbers (Ok n)) ≡ wrote_numbers (Ok n)
+pub stl_fits : {o : Outs} {c : Counts} {out out' : List ℕ} {n : ℕ} → WritesStl 8 8 o c out (Ok n) out' → words_of (size_numbers (Ok n)) ≡ size_numbers (Ok n)
 stl_fits {n = n} W = rw (word_same n (file_size_below W))
 
 pub stl_needed_fits : {o : Outs} {c : Counts} {out out' : List ℕ} {n : ℕ} → WritesStl 8 8 o c out (Err (NoStlRoom n)) out'
-    → words_of (wrote_numbers (Err (NoStlRoom n))) ≡ wrote_numbers (Err (NoStlRoom n))
+    → words_of (size_numbers (Err (NoStlRoom n))) ≡ size_numbers (Err (NoStlRoom n))
 stl_needed_fits {n = n} W = rw (word_same n (stl-needed-below W))
 
 pub listed_fits : {s : List ℕ} {l l' : Lists} {t : ℕ} → ((i : ℕ) → get_or s i 0 < 256) → ReadsStl s l (Ok t) l'
-    → words_of (listed_numbers (Ok t)) ≡ listed_numbers (Ok t)
+    → words_of (size_numbers (Ok t)) ≡ size_numbers (Ok t)
 listed_fits {t = t} b R = rw (word_same t (count_below b R))
 
 pub asked_fits : {s : List ℕ} {l l' : Lists} {t : ℕ} → ((i : ℕ) → get_or s i 0 < 256) → ReadsStl s l (Err (NoStlRoom t)) l'
-    → words_of (listed_numbers (Err (NoStlRoom t))) ≡ listed_numbers (Err (NoStlRoom t))
+    → words_of (size_numbers (Err (NoStlRoom t))) ≡ size_numbers (Err (NoStlRoom t))
 asked_fits {t = t} b R = rw (word_same t (asked_below b R))

@@ -1,12 +1,13 @@
 -- The calls for C: an answer is words in a lent array, those of an answer that the call's own promise allows.
 use Rattle.std.specs.Prelude.{ℕ, ◌+◌, ◌%◌, List, [], ◌∷◌, ◌≡◌, get_or, Result}
+use Rattle.job.specs.Refusals.{size_numbers}
 use Rattle.job.specs.declared.Refusal.{Refusal}
 use Rattle.pdb_reader.specs.declared.Read.{Read}
 use Rattle.pdb_reader.specs.Call.{read_numbers, Reads}
 use Rattle.buffers.specs.declared.Counts.{Counts}
 use Rattle.buffers.specs.Outs.{Outs}
-use Rattle.stl_writer.specs.Call.{wrote_numbers, WritesStl}
-use Rattle.stl_reader.specs.Call.{Lists, listed_numbers, ReadsStl}
+use Rattle.stl_writer.specs.Call.{WritesStl}
+use Rattle.stl_reader.specs.Call.{Lists, ReadsStl}
 use Rattle.shares.specs.declared.Share.{Share}
 use Rattle.shares.specs.declared.Shares.{Shares}
 use Rattle.room.specs.Room.{Scratch, Buffers}
@@ -45,13 +46,13 @@ pub record ReadsWords (s out a out' : List ℕ) : Type 0 where
 pub record WritesStlWords (o : Outs) (c : Counts) (out a out' : List ℕ) : Type 0 where
   pub answer : Result ℕ Refusal
   pub promise : WritesStl 8 8 o c out answer out'
-  pub words : a ≡ words_of (wrote_numbers answer)
+  pub words : a ≡ words_of (size_numbers answer)
 
 -- ribbon_read_stl, of a file's bytes s, where the lent lists held l
 pub record ReadsStlWords (s : List ℕ) (l : Lists) (a : List ℕ) (l' : Lists) : Type 0 where
   pub answer : Result ℕ Refusal
   pub promise : ReadsStl s l answer l'
-  pub words : a ≡ words_of (listed_numbers answer)
+  pub words : a ≡ words_of (size_numbers answer)
 
 -- a share in a list of numbers: its start at place i, and its length behind it
 abbrev pub share_at : List ℕ → ℕ → Share

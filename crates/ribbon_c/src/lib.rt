@@ -2,13 +2,12 @@
 #![tactic(auto)]
 
 ghost use Rattle.std.specs.Prelude.{◌≡◌, ◌+◌, ◌≤◌, length};
-ghost use Rattle.job.specs.Refusals.{refusal_numbers};
+ghost use Rattle.job.specs.Refusals.{refusal_numbers, size_numbers};
 ghost use Rattle.buffers.specs.Outs.{outs, held, holds};
 ghost use Rattle.room.specs.Room.{buffers, scratch};
 ghost use Rattle.promises.specs.Calls.{built_numbers, planned_numbers};
 ghost use Rattle.pdb_reader.specs.Call.{read_numbers};
-ghost use Rattle.stl_writer.specs.Call.{wrote_numbers};
-ghost use Rattle.stl_reader.specs.Call.{lists, listed_numbers};
+ghost use Rattle.stl_reader.specs.Call.{lists};
 ghost use Rattle.tube_call.specs.Part.{PartFor};
 ghost use Rattle.ribbon_c.specs.Words.{word_of, words_of, BuildsWords, PlansWords, ReadsWords, WritesStlWords, ReadsStlWords};
 ghost use Rattle.ribbon_c.specs.Words.{share_at, shares_at, BuildsShareWords, PlansRecordsWords};
@@ -72,20 +71,12 @@ fn read_words(a: Read) -> [u32; 4]
     }
 }
 
-fn wrote_words(a: Result<usize, Refusal>) -> [u32; 4]
-    ensures { result ≡ words_of (wrote_numbers a) }
+// Of an answer that is one number: the size of what was written, or how many facets were listed.
+fn size_words(a: Result<usize, Refusal>) -> [u32; 4]
+    ensures { result ≡ words_of (size_numbers a) }
 {
     match a {
         Ok(n) => [0, word(n), 0, 0],
-        Err(r) => refusal_words(r),
-    }
-}
-
-fn listed_words(a: Result<usize, Refusal>) -> [u32; 4]
-    ensures { result ≡ words_of (listed_numbers a) }
-{
-    match a {
-        Ok(t) => [0, word(t), 0, 0],
         Err(r) => refusal_words(r),
     }
 }
@@ -178,7 +169,7 @@ pub extern "C" fn ribbon_write_stl(
         triangles: t,
     };
     let a = stl_writer::write_stl(positions, normals, tags, triangles, tubes, boxes, c, stl);
-    *answer = wrote_words(a);
+    *answer = size_words(a);
 }
 
 // The number (0: a list) and T, or a refusal's number and what it carries, go to answer.
@@ -193,7 +184,7 @@ pub extern "C" fn ribbon_read_stl(
         (lists corners.new normals.new) }
 {
     let a = stl_reader::read_stl(file, corners, normals);
-    *answer = listed_words(a);
+    *answer = size_words(a);
 }
 
 fn share_at(n: &[usize], at: usize) -> Share

@@ -1,5 +1,6 @@
 -- Each answer of read_stl keeps its promise. Assumes nothing.
 use Rattle.std.specs.Prelude.{Err, Ok, Result, ℕ}
+use Rattle.job.specs.Refusals.{size_numbers}
 use Prim.Native.Nat.{ℕ, ◌*◌, ◌<◌, ◌≤◌}
 use mathlib.Core.Bool.{true, false}
 use mathlib.Core.List.{List}
@@ -11,12 +12,12 @@ use borrow.Author.Tests.{lt-ltb, le-ltb, eq-eqb, ne_eqb}
 use Rattle.job.specs.declared.Refusal.{Refusal}
 use Rattle.job.specs.declared.Refusal.TheVariants.{NoStlRoom, NotStl}
 use Rattle.facets.specs.Facets.{stl_size, count_in}
-use Rattle.stl_reader.specs.Call.{Lists, is_stl, few_places, list_answer, answer_for, list_by, lists_after, listed_numbers, ReadsStl}
+use Rattle.stl_reader.specs.Call.{Lists, is_stl, few_places, list_answer, answer_for, list_by, lists_after, ReadsStl}
 
 -- the promise, of the answer itself
 pub by_answer : (s : List ℕ) (l : Lists) (r : Result ℕ Refusal) (l' : Lists) → r ≡ answer_for s l → l' ≡ list_by r s l → ReadsStl s l r l'
 unfolding lists_after
-by_answer s l r l' e w = record { answer = ap listed_numbers e; contents = w ∙ ap (λ (x : Result ℕ Refusal). list_by x s l) e }
+by_answer s l r l' e w = record { answer = ap size_numbers e; contents = w ∙ ap (λ (x : Result ℕ Refusal). list_by x s l) e }
 
 module _ (s : List ℕ) (l : Lists) where
   -- under 84 bytes

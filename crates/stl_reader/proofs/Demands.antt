@@ -2,6 +2,7 @@
 -- lists held l, it answers r and leaves l'. What is listed of a file that write_stl wrote stands in stl_theorems.
 -- Assumes nothing.
 use Rattle.std.specs.Prelude.{Err, Ok, Result, ℕ}
+use Rattle.job.proofs.Told.{size_told}
 use Prim.Native.Nat.{ℕ, ◌*◌, ◌<◌, ◌≤◌}
 use mathlib.Core.List.{List, ◌++◌}
 use mathlib.Core.Path.{◌≡◌, refl, sym, ◌∙◌, subst}
@@ -11,7 +12,7 @@ use Rattle.job.specs.declared.Refusal.{Refusal}
 use Rattle.job.specs.declared.Refusal.TheVariants.{NoStlRoom, NotStl}
 use Rattle.facets.specs.Facets.{stl_size, count_in, listed_corners, listed_normals}
 use Rattle.stl_reader.specs.Call.{Lists, lists, ListRoom, ListShort, SameFacets, answer_for, lists_after, ReadsStl}
-use Rattle.stl_reader.proofs.Reading.{listed_told, Cause, cause_of, answer_of, cause_number, cause_19, cause_18}
+use Rattle.stl_reader.proofs.Reading.{Cause, cause_of, answer_of, cause_number, cause_19, cause_18}
 use Rattle.stl_reader.proofs.Reading.{cause_listed, after_refusal, after_listing, count_small}
 use Rattle.stl_reader.proofs.Reading.Cause.{unfit, short, fits}
 use Rattle.stl_reader.proofs.Skips.{answer_same, after_same}
@@ -19,7 +20,7 @@ use Rattle.stl_reader.proofs.Skips.{answer_same, after_same}
 module _ {s : List ℕ} {l l' : Lists} where
   -- the numbers of an answer tell it: it is THE answer
   answered : {r : Result ℕ Refusal} → ReadsStl s l r l' → r ≡ answer_for s l
-  answered {r} R = listed_told r _ R.answer
+  answered {r} R = size_told r _ R.answer
 
   caused : {r : Result ℕ Refusal} → ReadsStl s l r l' → Cause s l r
   caused R = subst (Cause s l) (sym (answered R)) (cause_of s l)
@@ -28,7 +29,7 @@ module _ {s : List ℕ} {l l' : Lists} where
 
   -- any two results that the promise allows are equal, in the answer and in every place of both lists
   pub list_determined : {l₂ : Lists} {r q : Result ℕ Refusal} → ReadsStl s l r l' → ReadsStl s l q l₂ → (r ≡ q) × (l' ≡ l₂)
-  list_determined R Q = (listed_told _ _ (R.answer ∙ sym Q.answer), R.contents ∙ sym Q.contents)
+  list_determined R Q = (size_told _ _ (R.answer ∙ sym Q.answer), R.contents ∙ sym Q.contents)
 
   -- a refusal is 18 or 19, and alters no lent place
   pub list_numbered : {q : Refusal} → ReadsStl s l (Err q) l' → (18 ≤ number_of q) × (number_of q ≤ 19)

@@ -10,22 +10,15 @@ use lib.ListN.{length, get_or, drop}
 use lib.Dec.{ltb, eqb}
 use borrow.Author.Tests.{ltb-true, ltb-false, eqb-true, eqb-false}
 use Rattle.lists.proofs.Puts.{put_front}
-use Rattle.job.specs.Refusals.{number_of}
+use Rattle.job.specs.Refusals.{number_of, size_numbers}
 use Rattle.job.specs.declared.Refusal.{Refusal}
 use Rattle.job.specs.declared.Refusal.TheVariants.{NoStlRoom, NotStl}
 use Rattle.job.proofs.Told.{told, zero_not}
 use Rattle.little.proofs.Laws.{le32_below}
 use Rattle.facets.specs.Facets.{stl_size, count_in, listed_corners, listed_normals}
 use Rattle.facets.proofs.Laws.{long_listed_corners, long_listed_normals}
-use Rattle.stl_reader.specs.Call.{Lists, lists, ListRoom, ListShort, answer_for, lists_after, listed_numbers}
+use Rattle.stl_reader.specs.Call.{Lists, lists, ListRoom, ListShort, answer_for, lists_after}
 use Rattle.stl_reader.proofs.Answers.{not_stl, short_corners, short_normals, listed}
-
--- an answer is told by its numbers
-pub listed_told : (r q : Result ℕ Refusal) → listed_numbers r ≡ listed_numbers q → r ≡ q
-listed_told (Ok n) (Ok m) e = ap (λ (l : List ℕ). Ok (get_or l 1 0)) e
-listed_told (Ok n) (Err q) e = absurd (zero_not q (ap (λ (l : List ℕ). get_or l 0 0) e))
-listed_told (Err r) (Ok m) e = absurd (zero_not r (sym (ap (λ (l : List ℕ). get_or l 0 0) e)))
-listed_told (Err r) (Err q) e = ap Err (told r q e)
 
 -- ---- the three answers, each with its cause
 pub data Cause (s : List ℕ) (l : Lists) : Result ℕ Refusal → Type 0 where
@@ -71,9 +64,9 @@ module _ (s : List ℕ) (l : Lists) where
       go false e = by _ (unfit (eqb-false (length s) (stl_size t) e))
 
   pub cause_number : (r : Result ℕ Refusal) → Cause s l r → (q : Refusal) → r ≡ Err q → (18 ≤ number_of q) × (number_of q ≤ 19)
-  cause_number _ (unfit e) q x = subst (λ (n : ℕ). (18 ≤ n) × (n ≤ 19)) (ap (λ (m : List ℕ). get_or m 0 0) (ap listed_numbers x)) (omega arith, omega arith)
-  cause_number _ (short e h) q x = subst (λ (n : ℕ). (18 ≤ n) × (n ≤ 19)) (ap (λ (m : List ℕ). get_or m 0 0) (ap listed_numbers x)) (omega arith, omega arith)
-  cause_number _ (fits e h) q x = absurd (zero_not q (ap (λ (m : List ℕ). get_or m 0 0) (ap listed_numbers x)))
+  cause_number _ (unfit e) q x = subst (λ (n : ℕ). (18 ≤ n) × (n ≤ 19)) (ap (λ (m : List ℕ). get_or m 0 0) (ap size_numbers x)) (omega arith, omega arith)
+  cause_number _ (short e h) q x = subst (λ (n : ℕ). (18 ≤ n) × (n ≤ 19)) (ap (λ (m : List ℕ). get_or m 0 0) (ap size_numbers x)) (omega arith, omega arith)
+  cause_number _ (fits e h) q x = absurd (zero_not q (ap (λ (m : List ℕ). get_or m 0 0) (ap size_numbers x)))
 
   pub cause_19 : Cause s l (Err NotStl) → length s ≡ stl_size (count_in s) → ⊥
   cause_19 (unfit e) = e

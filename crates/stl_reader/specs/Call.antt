@@ -2,7 +2,7 @@
 -- buffers ..' The bytes of a file are facets/specs/Facets.
 use Rattle.std.specs.Prelude.{ℕ, ◌+◌, ◌*◌, ◌<◌, ◌≤◌, ◌⊎◌, ◌≡◌, List, [], ◌∷◌, Bool, cond, not, ◌||◌, length, get_or, eqb, ltb, Float, Err, Ok, Result}
 use Rattle.lists.specs.Put.{put}
-use Rattle.job.specs.Refusals.{refusal_numbers}
+use Rattle.job.specs.Refusals.{size_numbers}
 use Rattle.job.specs.declared.Refusal.{Refusal}
 use Rattle.job.specs.declared.Refusal.TheVariants.{NoStlRoom, NotStl}
 use Rattle.facets.specs.Facets.{stl_size, count_in, facet_place, listed_corners, listed_normals}
@@ -42,11 +42,6 @@ list_by (Ok t) s l = lists (put l.corners 0 (listed_corners s t)) (put l.normals
 unfoldable pub lists_after : List ℕ → Lists → Lists
 lists_after s l = list_by (answer_for s l) s l
 
--- the number and the values of each answer: 0 and T, or the refusal's
-abbrev pub listed_numbers : Result ℕ Refusal → List ℕ
-listed_numbers (Ok t) = 0 ∷ t ∷ 0 ∷ 0 ∷ []
-listed_numbers (Err r) = refusal_numbers r
-
 -- ---- what the theorems say of the lists: room for t facets, '9T corner floats and 3T normal floats', and too little
 pub record ListRoom (t : ℕ) (l : Lists) : Type 0 where
   pub corners : 9 * t ≤ length l.corners
@@ -64,5 +59,5 @@ pub record SameFacets (s s₂ : List ℕ) : Type 0 where
 -- ==== THE promise of read_stl: of a file's bytes s, where the lent lists held l, it answers r and leaves l'
 pub record ReadsStl (s : List ℕ) (l : Lists) (r : Result ℕ Refusal) (l' : Lists) : Type 0 where
   -- its number and values are those of the answer
-  pub answer : listed_numbers r ≡ listed_numbers (answer_for s l)
+  pub answer : size_numbers r ≡ size_numbers (answer_for s l)
   pub contents : l' ≡ lists_after s l

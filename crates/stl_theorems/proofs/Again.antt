@@ -1,5 +1,6 @@
 -- A file that write_stl wrote, handed to read_stl. Assumes nothing.
 use Rattle.std.specs.Prelude.{Err, Ok, Result, ℕ}
+use Rattle.job.specs.Refusals.{size_numbers}
 use Prim.Native.Nat.{ℕ, ◌+◌, ◌*◌, ◌<◌}
 use mathlib.Core.List.{List, ◌++◌}
 use mathlib.Core.Logic.{⊎_elim}
@@ -17,7 +18,7 @@ use Rattle.facets.specs.Facets.{stl_bytes, stl_size, count_in, listed_corners, l
 use Rattle.facets.proofs.Laws.{stl_long, long_listed_corners, long_listed_normals}
 use Rattle.stl_writer.specs.Call.{file_of, WritesStl}
 use Rattle.stl_writer.proofs.Demands.{only_consistent, file_in_front}
-use Rattle.stl_reader.specs.Call.{Lists, lists, ListRoom, listed_numbers, ReadsStl}
+use Rattle.stl_reader.specs.Call.{Lists, lists, ListRoom, ReadsStl}
 use Rattle.stl_reader.proofs.Reading.{room_or}
 use Rattle.stl_reader.proofs.Demands.{always_listed, floats_and_rest, short_list_refused}
 use Rattle.stl_theorems.specs.Floats.{AllF32, corner_floats, normal_floats, word_in}
@@ -82,6 +83,6 @@ module _ {n : ℕ} {o : Outs} {c : Counts} {out out' : List ℕ} (W : WritesStl 
     pub only_room : {q : Refusal} → ReadsStl (take n out') l (Err q) l' → q ≡ NoStlRoom t
     only_room {q} L =
         ⊎_elim
-        (λ h. told q _ (ap listed_numbers (short_list_refused size_is h L)) ∙ ap NoStlRoom count_is)
-        (λ h. absurd (zero_not q (sym (ap (λ (m : List ℕ). get_or m 0 0) (ap listed_numbers (always_listed size_is h L))))))
+        (λ h. told q _ (ap size_numbers (short_list_refused size_is h L)) ∙ ap NoStlRoom count_is)
+        (λ h. absurd (zero_not q (sym (ap (λ (m : List ℕ). get_or m 0 0) (ap size_numbers (always_listed size_is h L))))))
         (room_or (take n out') l)

@@ -1,5 +1,6 @@
 -- Each answer of write_stl keeps its promise. Assumes nothing.
 use Rattle.std.specs.Prelude.{Err, Ok, Result, ℕ}
+use Rattle.job.specs.Refusals.{size_numbers}
 use Prim.Native.Nat.{ℕ, ◌*◌, ◌<◌, ◌≤◌}
 use mathlib.Core.Bool.{true, false}
 use mathlib.Core.List.{List, ◌++◌}
@@ -18,13 +19,13 @@ use Rattle.consistency.specs.Consistent.{consistent}
 use Rattle.consistency.proofs.Means.{consistent_means, corner_below, triangle_limit}
 use Rattle.facets.specs.Facets.{Drawn, stl_head, facets_of, stl_bytes, stl_size}
 use Rattle.facets.proofs.Laws.{long_head, facets_front}
-use Rattle.stl_writer.specs.Call.{file_of, write_answer, write_by, bytes_after, wrote_numbers, WritesStl}
+use Rattle.stl_writer.specs.Call.{file_of, write_answer, write_by, bytes_after, WritesStl}
 
 -- the promise, of the answer itself
 pub by_answer : (p d : ℕ) (o : Outs) (c : Counts) (out : List ℕ) (r : Result ℕ Refusal) (out' : List ℕ) → r ≡ write_answer p d o c (length out) → out' ≡ write_by r o c out
     → WritesStl p d o c out r out'
 unfolding bytes_after
-by_answer p d o c out r out' e w = record { answer = ap wrote_numbers e; bytes = w ∙ ap (λ (x : Result ℕ Refusal). write_by x o c out) e }
+by_answer p d o c out r out' e w = record { answer = ap size_numbers e; bytes = w ∙ ap (λ (x : Result ℕ Refusal). write_by x o c out) e }
 
 module _ (p d : ℕ) (o : Outs) (c : Counts) (room : ℕ) where
   pub at_17 : consistent p d o c ≡ false → Err Inconsistent ≡ write_answer p d o c room

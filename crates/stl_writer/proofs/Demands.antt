@@ -1,6 +1,7 @@
 -- WHAT IS PROMISED of write_stl (02 §4), as theorems over `WritesStl` (specs/Call), over p sides and d divisions: of
 -- the mesh buffers o, the counts c and lent bytes that held out, it answers r and leaves out'. Assumes nothing.
 use Rattle.std.specs.Prelude.{Err, Ok, Result, ℕ}
+use Rattle.job.proofs.Told.{size_told}
 use Prim.Native.Nat.{ℕ, ◌<◌, ◌≤◌}
 use mathlib.Core.Bool.{true, false}
 use mathlib.Core.List.{List, ◌++◌}
@@ -16,7 +17,7 @@ use Rattle.buffers.specs.Outs.{Outs}
 use Rattle.consistency.specs.Consistent.{consistent}
 use Rattle.facets.specs.Facets.{stl_size}
 use Rattle.stl_writer.specs.Call.{file_of, write_answer, bytes_after, WritesStl}
-use Rattle.stl_writer.proofs.Reading.{wrote_told, Cause, cause_of, answer_of, cause_number, cause_17, cause_18}
+use Rattle.stl_writer.proofs.Reading.{Cause, cause_of, answer_of, cause_number, cause_17, cause_18}
 use Rattle.stl_writer.proofs.Reading.Cause.{unfit, short, fits}
 use Rattle.stl_writer.proofs.Reading.{cause_file, after_refusal, after_file, front, behind, small_size}
 
@@ -28,7 +29,7 @@ two_residues_lem = refl
 module _ {p d : ℕ} {o : Outs} {c : Counts} {out out' : List ℕ} where
   -- the numbers of an answer tell it: it is THE answer
   answered : {r : Result ℕ Refusal} → WritesStl p d o c out r out' → r ≡ write_answer p d o c (length out)
-  answered {r} W = wrote_told r _ W.answer
+  answered {r} W = size_told r _ W.answer
 
   caused : {r : Result ℕ Refusal} → WritesStl p d o c out r out' → Cause p d o c (length out) r
   caused W = subst (Cause p d o c (length out)) (sym (answered W)) (cause_of p d o c (length out))
@@ -38,7 +39,7 @@ module _ {p d : ℕ} {o : Outs} {c : Counts} {out out' : List ℕ} where
   -- any two results that the promise allows are equal, in the answer and in every lent byte
   pub write_determined : {out₂ : List ℕ} {r q : Result ℕ Refusal}
       → WritesStl p d o c out r out' → WritesStl p d o c out q out₂ → (r ≡ q) × (out' ≡ out₂)
-  write_determined W X = (wrote_told _ _ (W.answer ∙ sym X.answer), W.bytes ∙ sym X.bytes)
+  write_determined W X = (size_told _ _ (W.answer ∙ sym X.answer), W.bytes ∙ sym X.bytes)
 
   -- a refusal is 17 or 18, and alters no lent byte
   pub write_numbered : {q : Refusal} → WritesStl p d o c out (Err q) out' → (17 ≤ number_of q) × (number_of q ≤ 18)

@@ -10,7 +10,7 @@ use lib.Seq.{take_at, drop_at}
 use lib.Dec.{ltb}
 use borrow.Author.Tests.{ltb-true, ltb-false}
 use Rattle.lists.proofs.Puts.{put_front}
-use Rattle.job.specs.Refusals.{number_of}
+use Rattle.job.specs.Refusals.{number_of, size_numbers}
 use Rattle.job.specs.declared.Refusal.{Refusal}
 use Rattle.job.specs.declared.Refusal.TheVariants.{Inconsistent, NoStlRoom}
 use Rattle.job.proofs.Told.{told, zero_not}
@@ -20,15 +20,8 @@ use Rattle.consistency.specs.Consistent.{consistent}
 use Rattle.consistency.proofs.Means.{triangle_limit}
 use Rattle.facets.specs.Facets.{stl_size}
 use Rattle.facets.proofs.Laws.{stl_long}
-use Rattle.stl_writer.specs.Call.{file_of, write_answer, bytes_after, wrote_numbers}
+use Rattle.stl_writer.specs.Call.{file_of, write_answer, bytes_after}
 use Rattle.stl_writer.proofs.Answers.{at_17, at_18, at_file}
-
--- an answer is told by its numbers
-pub wrote_told : (r q : Result ℕ Refusal) → wrote_numbers r ≡ wrote_numbers q → r ≡ q
-wrote_told (Ok n) (Ok m) e = ap (λ (l : List ℕ). Ok (get_or l 1 0)) e
-wrote_told (Ok n) (Err q) e = absurd (zero_not q (ap (λ (l : List ℕ). get_or l 0 0) e))
-wrote_told (Err r) (Ok m) e = absurd (zero_not r (sym (ap (λ (l : List ℕ). get_or l 0 0) e)))
-wrote_told (Err r) (Err q) e = ap Err (told r q e)
 
 -- ---- the three answers, each with its cause
 pub data Cause (p d : ℕ) (o : Outs) (c : Counts) (room : ℕ) : Result ℕ Refusal → Type 0 where
@@ -54,9 +47,9 @@ module _ (p d : ℕ) (o : Outs) (c : Counts) (room : ℕ) where
   answer_of _ (fits e h) = at_file p d o c room e h
 
   pub cause_number : (r : Result ℕ Refusal) → Cause p d o c room r → (q : Refusal) → r ≡ Err q → (17 ≤ number_of q) × (number_of q ≤ 18)
-  cause_number _ (unfit e) q x = subst (λ (n : ℕ). (17 ≤ n) × (n ≤ 18)) (ap (λ (l : List ℕ). get_or l 0 0) (ap wrote_numbers x)) (omega arith, omega arith)
-  cause_number _ (short e h) q x = subst (λ (n : ℕ). (17 ≤ n) × (n ≤ 18)) (ap (λ (l : List ℕ). get_or l 0 0) (ap wrote_numbers x)) (omega arith, omega arith)
-  cause_number _ (fits e h) q x = absurd (zero_not q (ap (λ (l : List ℕ). get_or l 0 0) (ap wrote_numbers x)))
+  cause_number _ (unfit e) q x = subst (λ (n : ℕ). (17 ≤ n) × (n ≤ 18)) (ap (λ (l : List ℕ). get_or l 0 0) (ap size_numbers x)) (omega arith, omega arith)
+  cause_number _ (short e h) q x = subst (λ (n : ℕ). (17 ≤ n) × (n ≤ 18)) (ap (λ (l : List ℕ). get_or l 0 0) (ap size_numbers x)) (omega arith, omega arith)
+  cause_number _ (fits e h) q x = absurd (zero_not q (ap (λ (l : List ℕ). get_or l 0 0) (ap size_numbers x)))
 
   pub cause_17 : Cause p d o c room (Err Inconsistent) → consistent p d o c ≡ false
   cause_17 (unfit e) = e

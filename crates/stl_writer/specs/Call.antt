@@ -2,7 +2,7 @@
 -- mesh, triangles in order, header all zero ..' Which buffers are consistent is consistency/specs/Consistent, the bytes of a file facets/specs/Facets.
 use Rattle.std.specs.Prelude.{ℕ, ◌≡◌, List, [], ◌∷◌, cond, not, length, ltb, Err, Ok, Result}
 use Rattle.lists.specs.Put.{put}
-use Rattle.job.specs.Refusals.{refusal_numbers}
+use Rattle.job.specs.Refusals.{size_numbers}
 use Rattle.job.specs.declared.Refusal.{Refusal}
 use Rattle.job.specs.declared.Refusal.TheVariants.{Inconsistent, NoStlRoom}
 use Rattle.buffers.specs.declared.Counts.{Counts}
@@ -30,13 +30,8 @@ write_by (Ok n) o c out = put out 0 (file_of o c)
 unfoldable pub bytes_after : ℕ → ℕ → Outs → Counts → List ℕ → List ℕ
 bytes_after p d o c out = write_by (write_answer p d o c (length out)) o c out
 
--- the number and the values of each answer: 0 and the file's size, or the refusal's
-abbrev pub wrote_numbers : Result ℕ Refusal → List ℕ
-wrote_numbers (Ok n) = 0 ∷ n ∷ 0 ∷ 0 ∷ []
-wrote_numbers (Err r) = refusal_numbers r
-
 -- THE promise of write_stl: of the mesh buffers o, the counts c, and lent bytes that held out, it answers r and leaves out'; the mesh buffers are read
 pub record WritesStl (p d : ℕ) (o : Outs) (c : Counts) (out : List ℕ) (r : Result ℕ Refusal) (out' : List ℕ) : Type 0 where
   -- its number and values are those of the answer
-  pub answer : wrote_numbers r ≡ wrote_numbers (write_answer p d o c (length out))
+  pub answer : size_numbers r ≡ size_numbers (write_answer p d o c (length out))
   pub bytes : out' ≡ bytes_after p d o c out

@@ -1,8 +1,6 @@
 use mathlib.Core.Path.{◌≡◌}
-use Prim.Native.Nat.{◌+◌, ◌*◌, ◌-◌, ◌≤◌}
 use Rattle.lists.specs.Put.{put, upto}
 use Rattle.edges.specs.Tube.{band_side}
-use Rattle.edges.specs.Tube as tube
 use Rattle.stitch.proofs.append_ring_and_stitch.Given as goal
 
 abbrev pub invariant-loop-k : goal.invariant-loop-k

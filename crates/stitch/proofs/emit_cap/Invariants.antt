@@ -1,5 +1,4 @@
 use mathlib.Core.Path.{◌≡◌}
-use Prim.Native.Nat.{◌+◌, ◌*◌, ◌-◌, ◌≤◌}
 use Rattle.lists.specs.Put.{put, upto}
 use Rattle.edges.specs.Tube.{cap_side}
 use Rattle.stitch.proofs.emit_cap.Given as goal

@@ -1,5 +1,5 @@
 use mathlib.Core.Path.{◌≡◌}
-use Prim.Native.Nat.{suc, ◌+◌, ◌*◌, ◌-◌, ◌≤◌}
+use Prim.Native.Nat.{suc, ◌+◌, ◌*◌, ◌≤◌}
 use Rattle.lists.specs.Put.{put, upto}
 use Rattle.edges.specs.Tube.{ring, band_at}
 use Rattle.stitch.proofs.tube_triangles.Given as goal

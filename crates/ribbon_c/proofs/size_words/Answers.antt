@@ -1,6 +1,6 @@
 use mathlib.Core.Path.{◌∙◌}
 use borrow.Author.Rules.{rules}
-use Rattle.ribbon_c.proofs.listed_words.Goals as goal
+use Rattle.ribbon_c.proofs.size_words.Goals as goal
 
 pub returns-in-Ok : goal.returns-in-Ok
 returns-in-Ok c = rw (c.word.ensures, c.in-Ok.is)
