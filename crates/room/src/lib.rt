@@ -2,9 +2,7 @@
 #![tactic(auto)]
 
 ghost use Rattle.std.specs.Prelude.{◌≡◌, ◌*◌, ◌≤◌, length};
-ghost use Rattle.std.specs.Float.{binary32};
-ghost use Rattle.std.specs.Float.Ieee.{of_bits};
-ghost use Rattle.room.specs.Room.{start, counts_in, short_scratch, zeroed, cleared_words, cleared_floats};
+ghost use Rattle.room.specs.Room.{start, counts_in, short_scratch, cleared_words, cleared_floats};
 
 use buffers::Counts;
 use protein::Head;
@@ -41,24 +39,14 @@ pub fn counts_of(t: Totals) -> Counts
     }
 }
 
-// Plus zeros in the first n places.
-fn clear_floats(f: &mut [f32], n: usize)
-    requires { n ≤ length f.old }
-    ensures { f.new ≡ zeroed (of_bits binary32 0) n f.old }
-{
-    for i in 0..n {
-        f[i] = 0.0;
-    }
-}
-
 // 01 fixes the scratch after every call that passes check 9.
 pub fn clear_scratch(h: Head, words: &mut [u32], floats: &mut [f32])
     requires { (h.residues ≤ 16384) × (8 * h.residues ≤ length words.old) × (32 * h.residues ≤ length floats.old) }
     ensures { (words.new ≡ cleared_words h words.old) × (floats.new ≡ cleared_floats h floats.old) }
 {
     let n = h.residues as usize;
-    scratch::clear(words, 0, 8 * n);
-    clear_floats(floats, 32 * n);
+    words[..8 * n].fill(0);
+    floats[..32 * n].fill(0.0);
 }
 
 // Check 9.

@@ -7,7 +7,7 @@ use Rattle.coils.proofs.extend.Goals as goal
 pub put_if-a-requires : goal.put_if-a-requires
 put_if-a-requires c =
     let pre = c.requires in
-    let a = lead_room (joins_in c.args.t.now c.args.n) _ _ _ c.requires.p_bound.0 c.is_led-before.ensures in (omega (arith, a.0, a.1, c.requires.n_bound.1, c.requires.n_bound.2, c.requires.n_bound.3), omega (arith, c.left_of.ensures, c.requires.p_bound.0, c.requires.n_bound.0))
+    let a = lead_room (joins_in c.args.t.now c.args.n) _ _ _ c.requires.p_bound.0 c.is_led-before.ensures in (omega (arith, a.0, a.1, c.requires.n_bound.1, c.requires.n_bound.2, c.requires.n_bound.3), omega (arith, c.saturating_sub.ensures, c.requires.p_bound.0, c.requires.n_bound.0))
 
 pub overflow_add-ext : goal.overflow_add-ext
 overflow_add-ext c = let a = lead_room (joins_in c.args.t.now c.args.n) _ _ _ c.requires.p_bound.0 c.is_led-before.ensures in omega (arith, a.1, c.put_if-a.ensures.0, c.requires.n_bound.0)
@@ -48,4 +48,4 @@ returns c =
     let is-joined = c.is_joined-after in
     let put_if = c.put_if-a in
     let put-if2 = c.put_if in
-    ext_all args.n args.p args.e put_if.result put-if2.result _ _ _ _ is-led.result is-joined.result _ _ _ c.requires.n_bound.1 c.requires.n_bound.2 c.requires.n_bound.3 (let a = lead_room (joins_in args.t.now args.n) _ _ _ c.requires.p_bound.0 is-led.ensures in let b = join_room args.t.now args.n _ _ c.requires.p_bound.1 is-joined.ensures in omega (arith, a.0, a.1, b.0, b.1, c.requires.n_bound.2, c.requires.n_bound.3)) put_if.ensures.0 put-if2.ensures.0 put_if.ensures.1 c.copy.ensures put-if2.ensures.1 (extended_is (joins_in args.t.now args.n) _ _ _ _ _ _ _ (run_first args.n args.p args.e args.t.now c.requires.n_bound.1 c.requires.n_bound.2 c.requires.n_bound.3) (run_last args.n args.p args.e args.t.now c.requires.n_bound.1 c.requires.n_bound.2 c.requires.n_bound.3) is-led.ensures is-joined.ensures c.left_of.ensures refl)
+    ext_all args.n args.p args.e put_if.result put-if2.result _ _ _ _ is-led.result is-joined.result _ _ _ c.requires.n_bound.1 c.requires.n_bound.2 c.requires.n_bound.3 (let a = lead_room (joins_in args.t.now args.n) _ _ _ c.requires.p_bound.0 is-led.ensures in let b = join_room args.t.now args.n _ _ c.requires.p_bound.1 is-joined.ensures in omega (arith, a.0, a.1, b.0, b.1, c.requires.n_bound.2, c.requires.n_bound.3)) put_if.ensures.0 put-if2.ensures.0 put_if.ensures.1 c.copy.ensures put-if2.ensures.1 (extended_is (joins_in args.t.now args.n) _ _ _ _ _ _ _ (run_first args.n args.p args.e args.t.now c.requires.n_bound.1 c.requires.n_bound.2 c.requires.n_bound.3) (run_last args.n args.p args.e args.t.now c.requires.n_bound.1 c.requires.n_bound.2 c.requires.n_bound.3) is-led.ensures is-joined.ensures c.saturating_sub.ensures refl)

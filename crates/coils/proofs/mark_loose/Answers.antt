@@ -6,7 +6,7 @@ use Rattle.scratch.proofs.Laws.{fill_empty}
 use Rattle.protein.specs.Job.{job_of}
 use Rattle.tubes.specs.Tubes.{loose}
 use Rattle.coils.specs.Coils.{covered_in}
-use Rattle.coils.proofs.Laws.{tables_kept, tables_again, covered_kept, loose_turn}
+use Rattle.coils.proofs.Laws.{tables_kept, tables_again, covered_kept, loose_turn, from_bit}
 use Rattle.coils.proofs.mark_loose.Goals as goal
 
 pub overflow_cast-n : goal.overflow_cast-n
@@ -43,7 +43,7 @@ loop-r-preserved c =
     let cov = covered_in args.t.now args.h.residues in
     let loop = c.loop-r in (
       omega arith,
-      loose_turn J cov loop.r _ _ _ _ (omega arith) c.requires.1.size loop.invariant.1 c.bit_of-v.ensures
+      loose_turn J cov loop.r _ _ _ _ (omega arith) c.requires.1.size loop.invariant.1 (c.from-v.ensures ∙ from_bit _)
           (c.is_loose.ensures ∙ ap (λ (k : ℕ → Bool). loose J k loop.r) (covered_kept J cov loop.r _ _ loop.invariant.0 loop.invariant.1)),
     )
 
