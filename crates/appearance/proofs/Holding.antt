@@ -1,11 +1,14 @@
 -- An index that is asked to hold one key more. Assumes nothing.
 use Prim.Native.Nat.{ℕ, ◌+◌, ◌<◌, ◌≤◌}
+use mathlib.Core.Bool.{true, false}
 use mathlib.Core.Path.{◌≡◌, refl, sym, subst, ◌∙◌}
 use mathlib.Core.List.{List, [], ◌∷◌, ◌++◌}
 use native.Mathlib.Omega.{arith}
 use lib.ListN.{length, set, replicate, length-replicate, get_or-replicate}
+use Rattle.std.specs.Prelude.{Option, Some, None, is_some}
 use Rattle.lists.specs.Search.{last}
-use Rattle.appearance.specs.Index.{is_key, Index, Keyed, Holding}
+use Rattle.lists.proofs.Bools.{clash}
+use Rattle.appearance.specs.Index.{Index, Keyed, Finds, Holding}
 use Rattle.appearance.specs.Order.{distinct, numbered}
 use Rattle.appearance.proofs.Numbers.{found_number, number_none, number_some, keyed_seen, keyed_new}
 
@@ -28,18 +31,21 @@ holding_none keys e = record { index = empty_index keys e; keyed = λ h. record 
 pub holding_full : (keys links : List ℕ) (n y : ℕ) → n ≡ 16384 → (l : List ℕ) → Holding keys links n l → Holding keys links n (l ++ (y ∷ []))
 holding_full keys links n y e l H = record { index = H.index; keyed = λ h. absurd (omega (arith, e, h)) }
 
-pub holding_seen : (keys links : List ℕ) (n y p : ℕ) → p ≡ last (is_key keys y) n → 0 < p → (l : List ℕ) → Holding keys links n l → Holding keys links n (l ++ (y ∷ []))
-holding_seen keys links n y p e q l H = record {
+pub holding_seen : (keys links : List ℕ) (n y : ℕ) (r : Option ℕ) → Finds keys n y r → is_some r ≡ true → (l : List ℕ)
+    → Holding keys links n l → Holding keys links n (l ++ (y ∷ []))
+holding_seen keys links n y None f s l H = clash s refl
+holding_seen keys links n y (Some i) f s l H = record {
   index = H.index;
-  keyed = λ h. keyed_seen keys n l y (H.keyed h) (number_some l y (subst (λ (k : ℕ). 0 < k) (e ∙ found_number keys l n y (H.keyed h)) q));
+  keyed = λ h. keyed_seen keys n l y (H.keyed h) (number_some l y (omega (arith, f, found_number keys l n y (H.keyed h))));
 }
 
-pub holding_new : (keys links : List ℕ) (n y p : ℕ) → p ≡ last (is_key keys y) n → p ≤ 0 → (keys' links' : List ℕ) → keys' ≡ set keys n y → Index keys' links' (n + 1)
+pub holding_new : (keys links : List ℕ) (n y : ℕ) (r : Option ℕ) → Finds keys n y r → is_some r ≡ false → (keys' links' : List ℕ) → keys' ≡ set keys n y → Index keys' links' (n + 1)
     → (l : List ℕ) → Holding keys links n l → Holding keys' links' (n + 1) (l ++ (y ∷ []))
-holding_new keys links n y p e q keys' links' k I l H = record {
+holding_new keys links n y (Some i) f s keys' links' k I l H = clash refl s
+holding_new keys links n y None f s keys' links' k I l H = record {
   index = I;
   keyed = λ h.
       let few : n < 16384 = omega (arith, h) in
-      let none : numbered l y ≡ 0 = omega (arith, sym (found_number keys l n y (H.keyed few)), e, q) in
+      let none : numbered l y ≡ 0 = omega (arith, sym (found_number keys l n y (H.keyed few)), f) in
       subst (λ (t : List ℕ). Keyed t (n + 1) (l ++ (y ∷ []))) (sym k) (keyed_new keys n l y (H.keyed few) (number_none l y none) (omega (arith, few, H.index.keys_size)));
 }

@@ -1,6 +1,6 @@
 -- An index that finds a key among many without a search of them all. Keys fall into 16,384 slots; the index holds, counted from 1, the last key
 -- of each slot and, for each key, the one before it of its own slot.
-use Rattle.std.specs.Prelude.{ℕ, ◌+◌, ◌*◌, ◌/◌, ◌%◌, ◌<◌, ◌≤◌, List, ◌++◌, Bool, ◌≡◌, eqb, length, get_or}
+use Rattle.std.specs.Prelude.{ℕ, suc, ◌+◌, ◌*◌, ◌/◌, ◌%◌, ◌<◌, ◌≤◌, List, ◌++◌, Bool, ◌≡◌, eqb, length, get_or, Option, MatchOption}
 use Rattle.lists.specs.Search.{last}
 use Rattle.appearance.specs.Order.{order}
 
@@ -11,6 +11,10 @@ slot x = (x / 256 + x / 2199023255552 * 613) % 16384
 -- key i is x
 unfoldable pub is_key : List ℕ → ℕ → ℕ → Bool
 is_key keys x i = eqb (get_or keys i 0) x
+
+-- the answer to the question which of the first n keys is x: the last of them that is, or none
+abbrev pub Finds : List ℕ → ℕ → ℕ → Option ℕ → Type 0
+Finds keys n x r = MatchOption r (last (is_key keys x) n ≡ 0) (λ i. (last (is_key keys x) n ≡ suc i) × (i < n))
 
 -- key i is of slot h
 unfoldable pub in_slot : List ℕ → ℕ → ℕ → Bool

@@ -3,8 +3,7 @@
 #![tactic(auto)]
 
 ghost use Rattle.std.specs.Prelude.{◌≡◌, [], ◌∷◌, ◌+◌, ◌<◌, ◌≤◌, set};
-ghost use Rattle.lists.specs.Search.{last};
-ghost use Rattle.appearance.specs.Index.{slot, is_key, Index, Gains};
+ghost use Rattle.appearance.specs.Index.{slot, Index, Finds, Gains};
 
 fn slot_of(key: u64) -> usize
     ensures { (result ≡ slot key) × (result < 16384) }
@@ -12,20 +11,22 @@ fn slot_of(key: u64) -> usize
     ((key / 256 + key / 2199023255552 * 613) % 16384) as usize
 }
 
-// The number of a key among the first `n`, counted from 1; 0: it is not there.
-pub fn find(keys: &[u64; 16384], links: &[usize; 32768], n: usize, key: u64) -> usize
+// Which of the first `n` keys this one is.
+pub fn find(keys: &[u64; 16384], links: &[usize; 32768], n: usize, key: u64) -> Option<usize>
     requires { Index keys.now links.now n }
-    ensures { (result ≡ last (is_key keys.now key) n) × (result ≤ n) }
+    ensures { Finds keys.now n key result }
 {
+    // Links count from 1, and 0 ends a slot's: tables that are all 0 are an empty index.
     let h = slot_of(key);
     let mut p = links[h];
     while 0 < p {
-        if keys[p - 1] == key {
-            return p;
+        let i = p - 1;
+        if keys[i] == key {
+            return Some(i);
         }
-        p = links[16383 + p];
+        p = links[16384 + i];
     }
-    0
+    None
 }
 
 // One key more, which gets the number `n`.
@@ -49,7 +50,7 @@ pub fn add(keys: &mut [u64; 16384], links: &mut [usize; 32768], n: usize, key: u
     if n == 16384 {
         return n;
     }
-    if 0 < find(keys, links, n, key) {
+    if find(keys, links, n, key).is_some() {
         return n;
     }
     enter(keys, links, n, key);

@@ -7,7 +7,6 @@ ghost use Rattle.protein.specs.Layout.{Whole};
 ghost use Rattle.appearance.specs.Index.{Index};
 
 use files::{STDERR_FILENO, say};
-use pdb_file::Next;
 use pdb_records::Record;
 use protein::Head;
 
@@ -20,10 +19,7 @@ fn mark(marks: &mut [u8; 49152], at: usize) {
 }
 
 fn is_marked(marks: &[u8; 49152], at: usize) -> bool {
-    if at < 49152 {
-        return marks[at] == 1;
-    }
-    false
+    at < 49152 && marks[at] == 1
 }
 
 // A residue of a tube; `more`: the tube holds the next one too.
@@ -44,23 +40,14 @@ fn mark_tube(marks: &mut [u8; 49152], first: usize, n: usize) {
     if 16384 - first < n {
         return;
     }
-    let mut i = 0;
-    while i < n {
+    for i in 0..n {
         mark_residue(marks, first + i, i + 1 < n);
-        i += 1;
     }
 }
 
-fn word(x: u32) -> usize {
-    x as usize
-}
-
 fn mark_tubes(marks: &mut [u8; 49152], tubes: &[u32]) {
-    let n = tubes.len() / 5;
-    let mut k = 0;
-    while k < n {
-        mark_tube(marks, word(tubes[5 * k + 1]), word(tubes[5 * k + 2]));
-        k += 1;
+    for t in tubes.chunks_exact(5) {
+        mark_tube(marks, t[1] as usize, t[2] as usize);
     }
 }
 
@@ -77,10 +64,8 @@ fn mark_alphas(marks: &mut [u8; 49152], job: &[u8], h: Head)
     requires { Whole job.now h }
 {
     let atoms = h.atoms as usize;
-    let mut a = 0;
-    while a < atoms {
+    for a in 0..atoms {
         mark_alpha(marks, protein::role(job, h, a), protein::residue(job, h, a));
-        a += 1;
     }
 }
 
@@ -91,27 +76,16 @@ fn add_name(keys: &mut [u64; 16384], links: &mut [usize; 32768], n: usize, r: Re
 {
     match r {
         Record::AnAtom(a) => appearance::add(keys, links, n, a.name),
-        Record::ASegment(_) => n,
-        Record::Skipped => n,
-        Record::Short => n,
-        Record::BadNumber => n,
+        _ => n,
     }
 }
 
 fn list_names(s: &[u8], keys: &mut [u64; 16384], links: &mut [usize; 32768])
     requires { Index keys.old links.old 0 }
 {
-    let mut at = 0;
-    let mut seen = false;
     let mut n = 0;
-    loop {
-        let next = pdb_file::step(s, at, seen);
-        let Next::Got(r, a, v) = next else {
-            return;
-        };
+    for r in pdb_file::records(s) {
         n = add_name(keys, links, n, r);
-        at = a;
-        seen = v;
     }
 }
 
@@ -130,16 +104,11 @@ fn letter_of(name: u64) -> u8
 }
 
 fn say_byte(b: u8) {
-    if b < 32 {
+    if (b' '..=b'~').contains(&b) {
+        say(&[b]);
+    } else {
         say(b"?");
-        return;
     }
-    if 126 < b {
-        say(b"?");
-        return;
-    }
-    let text = [b; 1];
-    say(&text);
 }
 
 fn say_chain(name: u64) {
@@ -181,23 +150,14 @@ fn say_break(before: u64, after: u64) {
 fn is_joined(marks: &[u8; 49152], a: usize, b: usize) -> bool
     requires { a < 65536 }
 {
-    if a + 1 != b {
-        return false;
-    }
-    is_marked(marks, 16384 + a)
+    a + 1 == b && is_marked(marks, 16384 + a)
 }
 
-fn wide(x: u16) -> usize
-    ensures { result < 65536 }
-{
-    x as usize
-}
-
-// How many breaks there are up to residue r, of which n were before it. The table has, for each letter, the last residue of that chain in a tube, counted from 1.
+// How many breaks there are up to residue r, of which n were before it. The table has, for each letter, the last residue of that chain in a tube.
 fn visit(
     keys: &[u64; 16384],
     marks: &[u8; 49152],
-    last: &mut [u16; 256],
+    last: &mut [Option<u16>; 256],
     r: usize,
     n: usize,
 ) -> usize
@@ -209,16 +169,17 @@ fn visit(
     }
     let name = keys[r];
     let c = letter_of(name) as usize;
-    let before = wide(last[c]);
-    last[c] = (r + 1) as u16;
-    if before == 0 {
+    let last_one = last[c];
+    last[c] = Some(r as u16);
+    let Some(before) = last_one else {
         return n;
-    }
-    if is_joined(marks, before - 1, r) {
+    };
+    let before = usize::from(before);
+    if is_joined(marks, before, r) {
         return n;
     }
     if n < 12 {
-        say_break(name_of(keys, before - 1), name);
+        say_break(name_of(keys, before), name);
     }
     n + 1
 }
@@ -236,12 +197,10 @@ fn say_more(name: &[u8], n: usize) {
 fn tell_breaks(keys: &[u64; 16384], marks: &[u8; 49152], residues: usize)
     requires { residues ≤ 16384 }
 {
-    let mut last = [0u16; 256];
+    let mut last = [None; 256];
     let mut n = 0;
-    let mut r = 0;
-    while r < residues {
+    for r in 0..residues {
         n = visit(keys, marks, &mut last, r, n);
-        r += 1;
     }
     say_more(b"break: and ", n);
     if 0 < n {
@@ -254,10 +213,7 @@ fn tell_breaks(keys: &[u64; 16384], marks: &[u8; 49152], residues: usize)
 fn is_alone(marks: &[u8; 49152], r: usize) -> bool
     requires { r < 16384 }
 {
-    if is_marked(marks, r) {
-        return false;
-    }
-    is_marked(marks, 32768 + r)
+    !is_marked(marks, r) && is_marked(marks, 32768 + r)
 }
 
 fn visit_alone(keys: &[u64; 16384], marks: &[u8; 49152], r: usize, n: usize) -> usize
@@ -282,10 +238,8 @@ fn tell_alone(keys: &[u64; 16384], marks: &[u8; 49152], residues: usize)
     requires { residues ≤ 16384 }
 {
     let mut n = 0;
-    let mut r = 0;
-    while r < residues {
+    for r in 0..residues {
         n = visit_alone(keys, marks, r, n);
-        r += 1;
     }
     say_more(b"alone: and ", n);
     if 0 < n {

@@ -72,9 +72,5 @@ pub fn put_visible(out: &mut [u8], at: usize, c: usize)
     requires { at + c ≤ length out.old }
     ensures { out.new ≡ put out.old at (replicate c 1) }
 {
-    let mut k = 0;
-    while k < c {
-        out[at + k] = 1;
-        k += 1;
-    }
+    out[at..at + c].fill(1);
 }

@@ -11,7 +11,6 @@ ghost use Rattle.model.specs.Ready.{Ready};
 use buffers::Counts;
 use facets::Drawing;
 use job::{Checked, Refusal};
-use pdb_reader::Read;
 use promises::Built;
 use protein::Head;
 use std::io::Stdout;
@@ -205,8 +204,8 @@ pub fn make(
 ) -> Made {
     let a = pdb_reader::read_pdb(file, job);
     match a {
-        Read::NoJob(r) => refuse(file, r, w.more),
-        Read::Written(n) => build_model(
+        Err(r) => refuse(file, r, w.more),
+        Ok(n) => build_model(
             file,
             &job[..n],
             positions,

@@ -20,7 +20,6 @@ use Rattle.promises.specs.Calls.{counts_of, Builds}
 use Rattle.promises.specs.Meshes.{tubes_in, Passes}
 use Rattle.promises.proofs.Checks.{passes_by}
 use Rattle.pdb_reader.specs.Call.{Reads}
-use Rattle.pdb_reader.specs.declared.Read.TheVariants.{Written, NoJob}
 use Rattle.pdb_reader.proofs.Demands.{caused, buffer_passes}
 use Rattle.facets.specs.Facets.{stl_size}
 use Rattle.scaling.specs.Scale.{factor, scaled_mesh}
@@ -31,6 +30,7 @@ use Rattle.model_theorems.specs.Model.{model_bytes}
 use Rattle.model_theorems.specs.Large.{LargeRoom, large_job}
 use Rattle.model_theorems.proofs.Files.{model_file, model_written, model_plain}
 use Rattle.model_theorems.proofs.Rooms.{large_refused, large_built, large_unread, large_too_many}
+use Rattle.std.specs.Prelude.{Ok, Err}
 
 -- ==== The file
 
@@ -69,11 +69,11 @@ every_job_built L p v B = large_built _ L _ p v B
 
 -- with room for the longest job no file is refused by 16: a refusal of the reader is one of 12 to 15
 pub room_for_every_file : {s out out' : List ℕ} {q : Refusal}
-    → large_job ≤ length out → Reads s out (NoJob q) out' → (12 ≤ number_of q) × (number_of q ≤ 15)
+    → large_job ≤ length out → Reads s out (Err q) out' → (12 ≤ number_of q) × (number_of q ≤ 15)
 room_for_every_file h R = large_unread _ _ _ h (caused R)
 
 -- and the job of a file that was read is refused by 10 alone, for its number of vertices
 pub only_too_many : {s out out' : List ℕ} {n : ℕ} {b b' : Buffers} {q : Refusal}
-    → Reads s out (Written n) out' → LargeRoom b → Builds (take n out') b (NoMesh q) b'
+    → Reads s out (Ok n) out' → LargeRoom b → Builds (take n out') b (NoMesh q) b'
     → (q ≡ TooManyVertices) × (1048576 < vertex_sum (tubes_in (take n out')))
 only_too_many R L B = large_too_many _ L _ (passes_by _ _ (buffer_passes R)) B

@@ -26,10 +26,10 @@ use Rattle.promises.proofs.Checks.{Exit, early, nine, ten, eleven, mesh, exit, n
 use Rattle.promises.proofs.Demands.{past_checks, only_for_room}
 use Rattle.pdb_reader.specs.Causes.{Readable, Cause}
 use Rattle.pdb_reader.specs.Causes.Cause.{at_12, at_13, at_14, at_15, at_16}
-use Rattle.pdb_reader.specs.declared.Read.TheVariants.{NoJob}
 use Rattle.pdb_reader.proofs.Answers.{limited}
 use Rattle.pdb_job.specs.Structure.{structure_of}
 use Rattle.model_theorems.specs.Large.{LargeRoom, large_job}
+use Rattle.std.specs.Prelude.{Err}
 
 -- a tube has two residues or more, and so 74 vertices or more
 few_tubes : (us : List Tube) → AllLong us → 74 * length us ≤ vertex_sum us
@@ -88,7 +88,7 @@ size_most {s} f =
     let l = limited (structure_of s) f.limits in
     omega (arith, f.size, l.chains, l.segments_are, l.atoms)
 
-pub large_unread : (s : List ℕ) (room : ℕ) (q : Refusal) → large_job ≤ room → Cause s room (NoJob q) → (12 ≤ number_of q) × (number_of q ≤ 15)
+pub large_unread : (s : List ℕ) (room : ℕ) (q : Refusal) → large_job ≤ room → Cause s room (Err q) → (12 ≤ number_of q) × (number_of q ≤ 15)
 large_unread s room q h (at_12 e) = (omega arith, omega arith)
 large_unread s room q h (at_13 e) = (omega arith, omega arith)
 large_unread s room q h (at_14 e) = (omega arith, omega arith)

@@ -1,15 +1,15 @@
 // The first line at fault, found with the tables of a survey.
 #![tactic(auto)]
 
-ghost use Rattle.std.specs.Prelude.{◌≡◌, false};
+ghost use Rattle.std.specs.Prelude.{◌≡◌, false, is_some};
 ghost use Rattle.appearance.specs.Index.{Keyed};
 ghost use Rattle.pdb_file.specs.Reading.{records, atoms_of, names};
-ghost use Rattle.pdb_file.specs.Faults.{first_atom, is_found, fault_of, fault_in};
+ghost use Rattle.pdb_file.specs.Faults.{first_atom, fault_of, fault_in};
 ghost use Rattle.pdb_survey.specs.Lines.{own_faults, ahead};
 ghost use Rattle.pdb_survey.specs.Tables.{Known};
 ghost use Rattle.pdb_wanted.specs.Wanted.{Wanted};
 
-use pdb_file::{Fault, Next};
+use pdb_file::Fault;
 use pdb_records::Record;
 
 // Whether the file has an atom of this residue. One that is not in the index is absent, unless there are more: then the file is searched.
@@ -23,16 +23,12 @@ fn is_present(
     name: u64,
 ) -> bool
     requires { (Wanted keys.now links.now bits.now n (names (atoms_of s.now))) × (more ≡ false → Keyed keys.now n (names (atoms_of s.now))) }
-    ensures { result ≡ is_found (first_atom name (atoms_of s.now)) }
+    ensures { result ≡ is_some (first_atom name (atoms_of s.now)) }
 {
-    let p = appearance::find(keys, links, n, name);
-    if 0 < p {
-        return bits[p - 1] == 1;
+    match appearance::find(keys, links, n, name) {
+        Some(i) => bits[i] == 1,
+        None => more && pdb_file::is_present(s, name),
     }
-    if more {
-        return pdb_file::is_present(s, name);
-    }
-    false
 }
 
 fn fault_of(
@@ -44,23 +40,22 @@ fn fault_of(
     more: bool,
     line: usize,
     r: Record,
-) -> Fault
+) -> Option<Fault>
     requires { (Wanted keys.now links.now bits.now n (names (atoms_of s.now))) × (more ≡ false → Keyed keys.now n (names (atoms_of s.now))) }
     ensures { result ≡ fault_of (atoms_of s.now) line r }
 {
     match r {
-        Record::Skipped => Fault::Clean,
-        Record::Short => Fault::LineShort(line),
-        Record::BadNumber => Fault::LineWrong(line),
-        Record::AnAtom(_) => Fault::Clean,
+        Record::Short => Some(Fault::LineShort(line)),
+        Record::BadNumber => Some(Fault::LineWrong(line)),
         Record::ASegment(g) => {
-            if is_present(s, keys, links, bits, n, more, g.start) {
-                if is_present(s, keys, links, bits, n, more, g.end) {
-                    return Fault::Clean;
-                }
+            if is_present(s, keys, links, bits, n, more, g.start)
+                && is_present(s, keys, links, bits, n, more, g.end)
+            {
+                return None;
             }
-            Fault::NoResidue(line)
+            Some(Fault::NoResidue(line))
         }
+        _ => None,
     }
 }
 
@@ -72,34 +67,30 @@ pub fn find_fault(
     links: &mut [usize; 32768],
     count: usize,
     more: bool,
-    own: Fault,
+    own: Option<Fault>,
     segments: usize,
-) -> Fault
+) -> Option<Fault>
     requires { (Known keys.old links.old count more (names (atoms_of s.now))) × (own ≡ own_faults 1 (records s.now))
         × (segments ≡ ahead (records s.now)) }
     ensures { (result ≡ fault_in s.now) × (more ≡ false → (keys.new ≡ keys.old) × (links.new ≡ links.old)) }
 {
     let mut bits = [1u8; 16384];
     let mut n = count;
-    let mut at = 0;
-    let mut seen = false;
     let mut line = 1;
     let mut left = segments;
+    let mut walk = pdb_file::records(s);
     while 0 < left {
-        let next = pdb_file::step(s, at, seen);
-        let Next::Got(r, a, v) = next else {
+        let here = walk;
+        let Some(r) = walk.next() else {
             return own;
         };
-        n = pdb_wanted::refresh(s, at, seen, keys, links, &mut bits, n, more, r);
+        n = pdb_wanted::refresh(here, keys, links, &mut bits, n, more, r);
         let f = fault_of(s, keys, links, &bits, n, more, line, r);
-        if pdb_file::is_clean(f) {
-            left -= pdb_survey::count_segment(Fault::Clean, r);
-            line += 1;
-            at = a;
-            seen = v;
-        } else {
+        if f.is_some() {
             return f;
         }
+        left -= pdb_survey::count_segment(None, r);
+        line += 1;
     }
     own
 }

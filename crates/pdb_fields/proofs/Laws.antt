@@ -10,10 +10,13 @@ use lib.Dec.{eqb, leb, lit<}
 use lib.ListN.{length, take, drop, get_or, length-drop, drop_of_length-le}
 use lib.Seq.{drop-cons, drop-drop}
 use borrow.Author.Tests.{eq-eqb, ne_eqb, le-leb, lt-leb, leb-true}
-use Rattle.pdb_fields.specs.declared.Number.{Number}
-use Rattle.pdb_fields.specs.declared.Number.TheVariants.{Bad, Good}
+use Rattle.std.specs.Prelude.{Option, Some, None}
+use Rattle.pdb_fields.specs.declared.Signed.{Signed}
 use Rattle.pdb_fields.specs.Numbers.{run, is_blank, is_digit, decimal, lead, blank, signed_field, end_whole, end_thousandths, fraction, whole, thousandths}
 use Rattle.pdb_fields.specs.Post.{Digits}
+
+abbrev pub good : Bool → ℕ → Option Signed
+good m n = Some (record { minus = m; size = n })
 
 at : (l : List ℕ) (k : ℕ) → k < length l → drop k l ≡ get_or l k 0 ∷ drop (k + 1) l
 at l k h = rw (add-one) (drop-cons l k 0 h)
@@ -30,12 +33,6 @@ module _ (t : ℕ → Bool) (l : List ℕ) (k : ℕ) where
   pub run_yes : k < length l → t (get_or l k 0) ≡ true → run t (drop k l) ≡ suc (run t (drop (k + 1) l))
   unfolding run
   run_yes h e = rw (at l k h, e)
-
-pub digit_low : (b : ℕ) → b < 48 → false ≡ is_digit b
-digit_low b h = rw (lt-leb 48 b h)
-
-pub digit_rest : (b : ℕ) → 48 ≤ b → leb b 57 ≡ is_digit b
-digit_rest b h = rw (le-leb 48 b h)
 
 pub digit_from : (b : ℕ) → is_digit b ≡ true → 48 ≤ b
 digit_from b e = leb-true 48 b (go (leb 48 b) (leb b 57) e)
@@ -107,19 +104,19 @@ module _ (l : List ℕ) (a m next value : ℕ) (ha : a ≡ 0 + run is_blank (dro
   abbrev d : ℕ
   d = run is_digit (drop (a + m) l)
 
-  pub signed_is : (f : Bool → List ℕ → ℕ → Number) → signed_field f l ≡ cond (eqb d 0) Bad (f (eqb m 1) (drop (a + m) l) d)
+  pub signed_is : (f : Bool → List ℕ → ℕ → Option Signed) → signed_field f l ≡ cond (eqb d 0) None (f (eqb m 1) (drop (a + m) l) d)
   signed_is f =
       let e : run is_blank l ≡ a = omega arith in
       ap (λ (n : ℕ). h n (lead 45 (drop n l))) e ∙ ap (h a) (sym hm) ∙ simp drop-drop
     where
-      h : ℕ → ℕ → Number
-      h a m = cond (eqb (run is_digit (drop m (drop a l))) 0) Bad (f (eqb m 1) (drop m (drop a l)) (run is_digit (drop m (drop a l))))
+      h : ℕ → ℕ → Option Signed
+      h a m = cond (eqb (run is_digit (drop m (drop a l))) 0) None (f (eqb m 1) (drop m (drop a l)) (run is_digit (drop m (drop a l))))
 
-  pub no_digit : (f : Bool → List ℕ → ℕ → Number) → next ≡ a + m → Bad ≡ signed_field f l
-  no_digit f e = let z : d ≡ 0 = omega (arith, hd.end) in sym (signed_is f ∙ ap (λ (n : ℕ). cond (eqb n 0) Bad (f (eqb m 1) (drop (a + m) l) d)) z)
+  pub no_digit : (f : Bool → List ℕ → ℕ → Option Signed) → next ≡ a + m → None ≡ signed_field f l
+  no_digit f e = let z : d ≡ 0 = omega (arith, hd.end) in sym (signed_is f ∙ ap (λ (n : ℕ). cond (eqb n 0) None (f (eqb m 1) (drop (a + m) l) d)) z)
 
-  some_digit : (f : Bool → List ℕ → ℕ → Number) → (next ≡ a + m → ⊥) → signed_field f l ≡ f (eqb m 1) (drop (a + m) l) d
-  some_digit f e = signed_is f ∙ ap (λ (b : Bool). cond b Bad (f (eqb m 1) (drop (a + m) l) d)) (ne_eqb d 0 (λ z. e (omega (arith, hd.end))))
+  some_digit : (f : Bool → List ℕ → ℕ → Option Signed) → (next ≡ a + m → ⊥) → signed_field f l ≡ f (eqb m 1) (drop (a + m) l) d
+  some_digit f e = signed_is f ∙ ap (λ (b : Bool). cond b None (f (eqb m 1) (drop (a + m) l) d)) (ne_eqb d 0 (λ z. e (omega (arith, hd.end))))
 
   rest_is : (k : ℕ) → drop (d + k) (drop (a + m) l) ≡ drop (next + k) l
   rest_is k = let e : a + m + (d + k) ≡ next + k = omega (arith, hd.end) in drop-drop (d + k) (a + m) l ∙ ap (λ (n : ℕ). drop n l) e
@@ -128,47 +125,47 @@ module _ (l : List ℕ) (a m next value : ℕ) (ha : a ≡ 0 + run is_blank (dro
   rest_0 = drop-drop d (a + m) l ∙ ap (λ (n : ℕ). drop n l) (sym hd.end)
 
   module _ (some : next ≡ a + m → ⊥) where
-    pub whole_no : blank (drop next l) ≡ false → Bad ≡ whole l
+    pub whole_no : blank (drop next l) ≡ false → None ≡ whole l
     unfolding whole
-    whole_no b = sym (some_digit end_whole some ∙ ap (λ (t : Bool). cond t (Good (eqb m 1) (decimal 0 (take d (drop (a + m) l)))) Bad) (ap blank rest_0 ∙ b))
+    whole_no b = sym (some_digit end_whole some ∙ ap (λ (t : Bool). cond t (good (eqb m 1) (decimal 0 (take d (drop (a + m) l)))) None) (ap blank rest_0 ∙ b))
 
-    pub whole_yes : blank (drop next l) ≡ true → Good (eqb m 1) value ≡ whole l
+    pub whole_yes : blank (drop next l) ≡ true → good (eqb m 1) value ≡ whole l
     unfolding whole
     whole_yes b =
         sym (some_digit end_whole some
-        ∙ ap (λ (t : Bool). cond t (Good (eqb m 1) (decimal 0 (take d (drop (a + m) l)))) Bad) (ap blank rest_0 ∙ b)
-        ∙ ap (Good (eqb m 1)) (sym hd.number))
+        ∙ ap (λ (t : Bool). cond t (good (eqb m 1) (decimal 0 (take d (drop (a + m) l)))) None) (ap blank rest_0 ∙ b)
+        ∙ ap (good (eqb m 1)) (sym hd.number))
 
     fraction_is : fraction (drop d (drop (a + m) l)) ≡ (eqb (lead 46 (drop next l)) 1 && (eqb (run is_digit (drop (next + 1) l)) 3 && blank (drop (next + 4) l)))
     fraction_is = ap fraction rest_0 ∙ simp drop-drop
 
     thousandths_is : thousandths l ≡ cond (eqb (lead 46 (drop next l)) 1 && (eqb (run is_digit (drop (next + 1) l)) 3 && blank (drop (next + 4) l)))
-        (Good (eqb m 1) (decimal value (take 3 (drop (next + 1) l)))) Bad
+        (good (eqb m 1) (decimal value (take 3 (drop (next + 1) l)))) None
     unfolding thousandths
     thousandths_is =
         some_digit end_thousandths some
-        ∙ ap (λ (t : Bool). cond t (Good (eqb m 1) (decimal (decimal 0 (take d (drop (a + m) l))) (take 3 (drop (d + 1) (drop (a + m) l))))) Bad) fraction_is
+        ∙ ap (λ (t : Bool). cond t (good (eqb m 1) (decimal (decimal 0 (take d (drop (a + m) l))) (take 3 (drop (d + 1) (drop (a + m) l))))) None) fraction_is
         ∙ simp (rest_is 1, ← hd.number)
 
-    pub no_point : (lead 46 (drop next l) ≡ 1 → ⊥) → Bad ≡ thousandths l
+    pub no_point : (lead 46 (drop next l) ≡ 1 → ⊥) → None ≡ thousandths l
     no_point p = sym (thousandths_is ∙ simp (ne_eqb _ _ p))
 
     module _ (p : lead 46 (drop next l) ≡ 1) (end value' : ℕ) (he : Digits l (next + 1) value end value') where
       three : end ≡ next + 4 → run is_digit (drop (next + 1) l) ≡ 3
       three e = omega (arith, he.end)
 
-      pub not_three : (end ≡ next + 4 → ⊥) → Bad ≡ thousandths l
+      pub not_three : (end ≡ next + 4 → ⊥) → None ≡ thousandths l
       not_three q = sym (thousandths_is ∙ simp (eq-eqb _ _ p, ne_eqb (run is_digit (drop (next + 1) l)) 3 (λ z. q (omega (arith, he.end)))))
 
-      pub not_blank : end ≡ next + 4 → blank (drop end l) ≡ false → Bad ≡ thousandths l
+      pub not_blank : end ≡ next + 4 → blank (drop end l) ≡ false → None ≡ thousandths l
       not_blank q b = sym (thousandths_is ∙ simp (eq-eqb _ _ p, eq-eqb _ _ (three q), subst (λ (n : ℕ). blank (drop n l) ≡ false) q b))
 
-      pub all_right : end ≡ next + 4 → blank (drop end l) ≡ true → Good (eqb m 1) value' ≡ thousandths l
+      pub all_right : end ≡ next + 4 → blank (drop end l) ≡ true → good (eqb m 1) value' ≡ thousandths l
       all_right q b =
           sym (thousandths_is
           ∙ (simp (eq-eqb _ _ p, eq-eqb _ _ (three q), subst (λ (n : ℕ). blank (drop n l) ≡ true) q b))
-          ∙ ap (λ (n : ℕ). Good (eqb m 1) (decimal value (take n (drop (next + 1) l)))) (sym (three q))
-          ∙ ap (Good (eqb m 1)) (sym he.number))
+          ∙ ap (λ (n : ℕ). good (eqb m 1) (decimal value (take n (drop (next + 1) l)))) (sym (three q))
+          ∙ ap (good (eqb m 1)) (sym he.number))
 
 pub ten_pos : (k : ℕ) → 0 < 10 ^ k
 ten_pos k = pow-le-pow_right (lit< tt) (zero-le {n = k})

@@ -5,10 +5,11 @@ ghost use Rattle.std.specs.Prelude.{◌≡◌, false, ◌+◌, ◌*◌, ◌-◌,
 ghost use Rattle.pdb_fields.specs.Numbers.{run, is_blank, is_digit, lead, whole, thousandths};
 ghost use Rattle.pdb_fields.specs.Post.{Digits};
 
-#[derive(Drop)]
-pub enum Number {
-    Bad,
-    Good { minus: bool, size: u32 },
+// A number with its sign. Fields that hold none give `None`.
+#[derive(Clone, Copy)]
+pub struct Signed {
+    pub minus: bool,
+    pub size: u32,
 }
 
 #[derive(Drop)]
@@ -22,23 +23,18 @@ fn past_blanks(l: &[u8], i: usize) -> usize
     requires { i ≤ length l.now }
     ensures { (result ≡ i + run is_blank (drop i l.now)) × (result ≤ length l.now) }
 {
-    let mut k = i;
-    while k < l.len() {
+    for k in i..l.len() {
         if l[k] != 32 {
             return k;
         }
-        k += 1;
     }
-    k
+    l.len()
 }
 
 fn is_digit(b: u8) -> bool
     ensures { result ≡ is_digit b }
 {
-    if b < 48 {
-        return false;
-    }
-    b <= 57
+    (48..=57).contains(&b)
 }
 
 // 1 where the byte `b` stands at `i`.
@@ -46,12 +42,7 @@ pub fn lead_at(l: &[u8], i: usize, b: u8) -> usize
     requires { i ≤ length l.now }
     ensures { (result ≡ lead b (drop i l.now)) × (i + result ≤ length l.now) }
 {
-    if i < l.len() {
-        if l[i] == b {
-            return 1;
-        }
-    }
-    0
+    if i < l.len() && l[i] == b { 1 } else { 0 }
 }
 
 // The digits from `i` on, `v` standing before them.
@@ -59,22 +50,22 @@ pub fn digits(l: &[u8], i: usize, v: u32) -> Run
     requires { (i ≤ length l.now) × (length l.now ≤ 8) × (v < 10 ^ i) }
     ensures { (Digits l.now i v result.next result.value) × (result.value < 10 ^ result.next) }
 {
-    let mut k = i;
     let mut value = v;
-    while k < l.len() {
+    for k in i..l.len() {
         let b = l[k];
-        if is_digit(b) {
-            value = 10 * value + ((b - 48) as u32);
-            k += 1;
-        } else {
+        if !is_digit(b) {
             return Run { next: k, value };
         }
+        value = 10 * value + ((b - 48) as u32);
     }
-    Run { next: k, value }
+    Run {
+        next: l.len(),
+        value,
+    }
 }
 
 // A whole number.
-pub fn whole_in(l: &[u8]) -> Number
+pub fn whole_in(l: &[u8]) -> Option<Signed>
     requires { length l.now ≤ 8 }
     ensures { result ≡ whole l.now }
 {
@@ -83,19 +74,19 @@ pub fn whole_in(l: &[u8]) -> Number
     let d = digits(l, a + m, 0);
     let next = d.next;
     if next == a + m {
-        return Number::Bad;
+        return None;
     }
     if past_blanks(l, next) != l.len() {
-        return Number::Bad;
+        return None;
     }
-    Number::Good {
+    Some(Signed {
         minus: m == 1,
         size: d.value,
-    }
+    })
 }
 
 // A number with three decimal places, in thousandths.
-pub fn thousandths_in(l: &[u8]) -> Number
+pub fn thousandths_in(l: &[u8]) -> Option<Signed>
     requires { length l.now ≤ 8 }
     ensures { result ≡ thousandths l.now }
 {
@@ -104,21 +95,21 @@ pub fn thousandths_in(l: &[u8]) -> Number
     let d = digits(l, a + m, 0);
     let next = d.next;
     if next == a + m {
-        return Number::Bad;
+        return None;
     }
     if lead_at(l, next, 46) != 1 {
-        return Number::Bad;
+        return None;
     }
     let e = digits(l, next + 1, d.value);
     let end = e.next;
     if end != next + 4 {
-        return Number::Bad;
+        return None;
     }
     if past_blanks(l, end) != l.len() {
-        return Number::Bad;
+        return None;
     }
-    Number::Good {
+    Some(Signed {
         minus: m == 1,
         size: e.value,
-    }
+    })
 }

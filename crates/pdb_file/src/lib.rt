@@ -1,28 +1,18 @@
 // A walk over the records of a PDB file.
 #![tactic(auto)]
 
-ghost use Rattle.std.specs.Prelude.{◌≡◌, true, false, ◌≤◌, length};
+pub mod walk;
+
+ghost use Rattle.std.specs.Prelude.{◌≡◌, is_some};
 ghost use Rattle.pdb_file.specs.Reading.{stops, saw, atoms_of};
-ghost use Rattle.pdb_file.specs.Faults.{found_in, first_atom, is_found, is_clean};
-ghost use Rattle.pdb_file.specs.Steps.{Stepped};
+ghost use Rattle.pdb_file.specs.Faults.{found_in, first_atom};
+ghost use Rattle.pdb_file.specs.Steps.{Stepped, bytes_left, Begins};
 
 use pdb_records::{Kind, Record};
-
-#[derive(Drop)]
-pub enum Next {
-    Done,
-    Got(Record, usize, bool),
-}
-
-#[derive(Drop)]
-pub enum Found {
-    Nowhere,
-    Serial(u64),
-}
+pub use walk::Walk;
 
 #[derive(Clone, Copy)]
 pub enum Fault {
-    Clean,
     LineShort(usize),
     LineWrong(usize),
     NoResidue(usize),
@@ -35,10 +25,7 @@ pub fn stops_at(seen: bool, k: Kind) -> bool
     match k {
         Kind::Model => seen,
         Kind::Endmdl => true,
-        Kind::Atom => false,
-        Kind::Helix => false,
-        Kind::Sheet => false,
-        Kind::Other => false,
+        _ => false,
     }
 }
 
@@ -47,92 +34,70 @@ pub fn saw_model(seen: bool, k: Kind) -> bool
 {
     match k {
         Kind::Model => true,
-        Kind::Endmdl => seen,
-        Kind::Atom => seen,
-        Kind::Helix => seen,
-        Kind::Sheet => seen,
-        Kind::Other => seen,
+        _ => seen,
     }
 }
 
-// The record at `at`, and where the next one starts.
-pub fn step(s: &[u8], at: usize, seen: bool) -> Next
-    requires { at ≤ length s.now }
-    ensures { Stepped s.now at seen result }
+impl<'a> Iterator for Walk<'a> {
+    type Item = Record;
+
+    ghost next_gives = { Stepped };
+
+    ghost remaining = { bytes_left };
+
+    fn next(&mut self) -> Option<Record> {
+        let s = self.text;
+        let at = self.at;
+        if s.len() <= at {
+            return None;
+        }
+        let l = pdb_lines::line_at(s, at);
+        let line = &s[at..l.to];
+        let k = pdb_records::kind_of(line);
+        if stops_at(self.seen, k) {
+            return None;
+        }
+        self.at = l.next;
+        self.seen = saw_model(self.seen, k);
+        Some(pdb_records::record_of(k, line))
+    }
+}
+
+// All records of a file.
+pub fn records<'a>(s: &'a [u8]) -> Walk<'a>
+    ensures { Begins s.now result }
 {
-    if s.len() <= at {
-        return Next::Done;
+    Walk {
+        text: s,
+        at: 0,
+        seen: false,
     }
-    let l = pdb_lines::line_at(s, at);
-    let to = l.to;
-    let k = pdb_records::kind_of(&s[at..to]);
-    if stops_at(seen, k) {
-        return Next::Done;
-    }
-    Next::Got(
-        pdb_records::record_of(k, &s[at..to]),
-        l.next,
-        saw_model(seen, k),
-    )
 }
 
-fn found_in(name: u64, r: Record) -> Found
+fn found_in(name: u64, r: Record) -> Option<u64>
     ensures { result ≡ found_in name r }
 {
     match r {
-        Record::AnAtom(a) => {
-            if a.name == name {
-                return Found::Serial(a.serial);
-            }
-            Found::Nowhere
-        }
-        Record::ASegment(_) => Found::Nowhere,
-        Record::Skipped => Found::Nowhere,
-        Record::Short => Found::Nowhere,
-        Record::BadNumber => Found::Nowhere,
+        Record::AnAtom(a) if a.name == name => Some(a.serial),
+        _ => None,
     }
 }
 
 // The serial of a residue's first atom.
-fn first_atom(s: &[u8], name: u64) -> Found
+fn first_atom(s: &[u8], name: u64) -> Option<u64>
     ensures { result ≡ first_atom name (atoms_of s.now) }
 {
-    let mut at = 0;
-    let mut seen = false;
-    loop {
-        let n = step(s, at, seen);
-        match n {
-            Next::Done => return Found::Nowhere,
-            Next::Got(r, a, v) => {
-                let f = found_in(name, r);
-                if let Found::Serial(x) = f {
-                    return Found::Serial(x);
-                }
-                at = a;
-                seen = v;
-            }
+    for r in records(s) {
+        if let Some(x) = found_in(name, r) {
+            return Some(x);
         }
     }
+    None
 }
 
 // Whether an atom of the file is of this residue: the whole file is read up to it.
 pub fn is_present(s: &[u8], name: u64) -> bool
-    ensures { result ≡ is_found (first_atom name (atoms_of s.now)) }
+    ensures { result ≡ is_some (first_atom name (atoms_of s.now)) }
 {
-    let f = first_atom(s, name);
-    match f {
-        Found::Nowhere => false,
-        Found::Serial(_) => true,
-    }
-}
-
-pub fn is_clean(f: Fault) -> bool
-    ensures { result ≡ is_clean f }
-{
-    match f {
-        Fault::Clean => true,
-        Fault::LineShort(_) => false,
-        Fault::LineWrong(_) => false,
-        Fault::NoResidue(_) => false,
-    }
+    first_atom(s, name).is_some()
 }

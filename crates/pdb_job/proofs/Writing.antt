@@ -12,7 +12,7 @@ use Rattle.lists.specs.Put.{put}
 use Rattle.lists.proofs.Puts.{kept, length_put, put_at, put_apart}
 use Rattle.lists.specs.Search.{last}
 use Rattle.appearance.specs.Order.{member, place, numbered}
-use Rattle.appearance.specs.Index.{is_key, Keyed}
+use Rattle.appearance.specs.Index.{is_key, Keyed, Finds}
 use Rattle.appearance.proofs.Laws.{member_append}
 use Rattle.lists.proofs.Searches.{last_taken}
 use Rattle.appearance.proofs.Numbers.{found_number, number_none, number_is, number_some}
@@ -24,11 +24,11 @@ use Rattle.pdb_records.specs.declared.AtomLine.{AtomLine}
 use Rattle.pdb_records.specs.declared.SegmentLine.{SegmentLine}
 use Rattle.pdb_records.specs.declared.Record.{Record}
 use Rattle.pdb_records.specs.declared.Record.TheVariants.{AnAtom, ASegment}
-use Rattle.pdb_file.specs.Reading.{rest, records, atoms, atoms_in, atoms_of, segments, segments_in, segments_of, names, letters}
-use Rattle.pdb_file.specs.Steps.{Onward}
-use Rattle.pdb_file.specs.Faults.{first_atom, last_atom, is_found, serial_in}
-use Rattle.pdb_file.specs.declared.Found.{Found}
-use Rattle.pdb_file.specs.declared.Found.TheVariants.{Nowhere, Serial}
+use Rattle.pdb_file.specs.Reading.{records, atoms, atoms_in, atoms_of, segments, segments_in, segments_of, names, letters}
+use Rattle.pdb_file.specs.Steps.{left, Onward, Begins}
+use Rattle.pdb_file.specs.declared.walk.Walk.{Walk}
+use Rattle.pdb_file.specs.Faults.{first_atom, last_atom, serial_in}
+use Rattle.std.specs.Prelude.{Option, Some, None, is_some, IsSome, IfSome, MatchOption}
 use Rattle.pdb_survey.specs.Tables.{Residues, Marks}
 use Rattle.pdb_survey.proofs.Atoms.{found_member}
 use Rattle.pdb_job.specs.Structure.{to_atom, to_segment, residue_order, chain_order, chains_of}
@@ -37,14 +37,14 @@ use Rattle.pdb_job.specs.declared.records.Places.{Places}
 use Rattle.lists.proofs.Bools.{or_no}
 
 -- ---- a residue that is not there has no first atom and no last
-nowhere : (f : Found) → is_found f ≡ false → f ≡ Nowhere
-nowhere Nowhere e = refl
-nowhere (Serial n) e = absurd (let z : ◌≡◌ {A = ℕ} 0 1 = cc in omega arith)
+nowhere : (f : Option ℕ) → is_some f ≡ false → f ≡ None
+nowhere None e = refl
+nowhere (Some n) e = absurd (let z : ◌≡◌ {A = ℕ} 0 1 = cc in omega arith)
 
-no_first : (x : ℕ) (l : List AtomLine) → member x (names l) ≡ false → first_atom x l ≡ Nowhere
+no_first : (x : ℕ) (l : List AtomLine) → member x (names l) ≡ false → first_atom x l ≡ None
 no_first x l m = nowhere (first_atom x l) (found_member x l ∙ m)
 
-no_last : (x : ℕ) (l : List AtomLine) → member x (names l) ≡ false → last_atom x l ≡ Nowhere
+no_last : (x : ℕ) (l : List AtomLine) → member x (names l) ≡ false → last_atom x l ≡ None
 unfolding last_atom member
 no_last x [] m = refl
 no_last x (a ∷ l) m =
@@ -54,44 +54,47 @@ no_last x (a ∷ l) m =
     other : (a b : ℕ) → a ≡ b → eqb b a ≡ false → ⊥
     other a b e q = let w : ◌≡◌ {A = Bool} true false = sym (eq-eqb b a (sym e)) ∙ q in let z : ◌≡◌ {A = ℕ} 0 1 = cc in omega arith
 
+-- ---- a key that was found
+pub found_low : (keys : List ℕ) (n x : ℕ) (f : Option ℕ) → Finds keys n x f → n ≤ 16384 → IfSome f (λ i. i < 16384)
+found_low keys n x None F h = tt
+found_low keys n x (Some i) F h = omega (arith, F)
+
+pub found_some : (keys : List ℕ) (n x : ℕ) (f : Option ℕ) → Finds keys n x f → 0 < last (is_key keys x) n → IsSome f
+found_some keys n x None F h = absurd (omega (arith, F))
+found_some keys n x (Some i) F h = refl
+
+pub found_at : (keys : List ℕ) (n x : ℕ) (f : Option ℕ) (i : ℕ) → Finds keys n x f → f ≡ Some i → last (is_key keys x) n ≡ suc i
+found_at keys n x f i F e = (subst (Finds keys n x) e F).0
+
 -- ---- serials from the table
-module _ (keys links ends : List ℕ) (n : ℕ) (l : List AtomLine) (R : Residues keys links ends n l) (x p : ℕ) (e : p ≡ last (is_key keys x) n)
-    (r base : ℕ) (none : p ≡ 0 → r ≡ 0) (some : (i : ℕ) → p ≡ i + 1 → r ≡ get_or ends (base + i) 0) where
-  by_number : (f : ℕ → Found) → (member x (names l) ≡ false → f x ≡ Nowhere) → ((i : ℕ) → i < n → get_or ends (base + i) 0 ≡ serial_in (f (get_or keys i 0))) → p ≤ n
-      → r ≡ serial_in (f x)
+module _ (keys links ends : List ℕ) (n : ℕ) (l : List AtomLine) (R : Residues keys links ends n l) (x r : ℕ) where
+  by_number : (base : ℕ) (f : ℕ → Option ℕ) → (member x (names l) ≡ false → f x ≡ None) → ((i : ℕ) → i < n → get_or ends (base + i) 0 ≡ serial_in (f (get_or keys i 0)))
+      → (found : Option ℕ) → Finds keys n x found → MatchOption found (r ≡ 0) (λ i. r ≡ get_or ends (base + i) 0) → r ≡ serial_in (f x)
   unfolding is_key
-  by_number f missing table low = go p refl
-    where
-      go : (q : ℕ) → p ≡ q → r ≡ serial_in (f x)
-      go zero z = none z ∙ sym (ap serial_in (missing (number_none (names l) x (sym (found_number keys (names l) n x R.keyed) ∙ sym e ∙ z))))
-      go (suc i) z =
-          some i (z ∙ sym (add-one i)) ∙ table i (omega arith)
-          ∙ ap (λ (y : ℕ). serial_in (f y)) (eqb-true (get_or keys i 0) x (last_taken (is_key keys x) n i (sym e ∙ z)))
+  by_number base f missing table None F o =
+      o ∙ sym (ap serial_in (missing (number_none (names l) x (sym (found_number keys (names l) n x R.keyed) ∙ F))))
+  by_number base f missing table (Some i) F o =
+      o ∙ table i F.1 ∙ ap (λ (y : ℕ). serial_in (f y)) (eqb-true (get_or keys i 0) x (last_taken (is_key keys x) n i F.0))
 
-pub first_serial : (keys links ends : List ℕ) (n : ℕ) (l : List AtomLine) → Residues keys links ends n l → (x p : ℕ) → p ≡ last (is_key keys x) n → p ≤ n
-    → (r : ℕ) → (p ≡ 0 → r ≡ 0) → ((i : ℕ) → p ≡ i + 1 → r ≡ get_or ends (0 + i) 0) → r ≡ serial_in (first_atom x l)
-first_serial keys links ends n l R x p e low r none some =
-    by_number keys links ends n l R x p e r 0 none some (λ (y : ℕ). first_atom y l) (no_first x l)
-    (λ i h. ap (λ (k : ℕ). get_or ends k 0) (omega arith) ∙ R.first i h) low
+  pub first_serial : (found : Option ℕ) → Finds keys n x found → MatchOption found (r ≡ 0) (λ i. r ≡ get_or ends (0 + i) 0) → r ≡ serial_in (first_atom x l)
+  first_serial = by_number 0 (λ (y : ℕ). first_atom y l) (no_first x l) (λ i h. ap (λ (k : ℕ). get_or ends k 0) (omega arith) ∙ R.first i h)
 
-pub last_serial : (keys links ends : List ℕ) (n : ℕ) (l : List AtomLine) → Residues keys links ends n l → (x p : ℕ) → p ≡ last (is_key keys x) n → p ≤ n
-    → (r : ℕ) → (p ≡ 0 → r ≡ 0) → ((i : ℕ) → p ≡ i + 1 → r ≡ get_or ends (16384 + i) 0) → r ≡ serial_in (last_atom x l)
-last_serial keys links ends n l R x p e low r none some =
-    by_number keys links ends n l R x p e r 16384 none some (λ (y : ℕ). last_atom y l) (no_last x l) R.last low
+  pub last_serial : (found : Option ℕ) → Finds keys n x found → MatchOption found (r ≡ 0) (λ i. r ≡ get_or ends (16384 + i) 0) → r ≡ serial_in (last_atom x l)
+  last_serial = by_number 16384 (λ (y : ℕ). last_atom y l) (no_last x l) R.last
 
 pub segment_made : (l : List AtomLine) (g : SegmentLine) (a b : ℕ) → a ≡ serial_in (first_atom g.start l) → b ≡ serial_in (last_atom g.end l)
     → ◌≡◌ {A = JobSegment} (record { kind = g.kind; start = a; end = b }) (to_segment l g)
 segment_made l g a b p q = rw (p, q)
 
 pub atom_made : (l : List AtomLine) (keys marks : List ℕ) (n : ℕ) (x : AtomLine) → Keyed keys n (names l) → Marks marks (chains_of l) (letters l) → x.chain < 256
-    → (p c : ℕ) → p ≡ last (is_key keys x.name) n → 0 < p → c ≡ get_or marks x.chain 0 → 0 < c
-    → ◌≡◌ {A = JobAtom} (record { serial = x.serial; role = x.role; residue = p - 1; chain = c - 1; x = x.x; y = x.y; z = x.z }) (to_atom l x)
-atom_made l keys marks n x K M low p c ep hp ec hc =
-    let np : p ≡ numbered (names l) x.name = ep ∙ found_number keys (names l) n x.name K in
+    → (i c : ℕ) → last (is_key keys x.name) n ≡ suc i → c ≡ get_or marks x.chain 0 → 0 < c
+    → ◌≡◌ {A = JobAtom} (record { serial = x.serial; role = x.role; residue = i; chain = c - 1; x = x.x; y = x.y; z = x.z }) (to_atom l x)
+atom_made l keys marks n x K M low i c ei ec hc =
+    let np : suc i ≡ numbered (names l) x.name = sym ei ∙ found_number keys (names l) n x.name K in
     let nc : c ≡ numbered (letters l) x.chain = ec ∙ M.mark x.chain low in
-    let mp = number_is (names l) x.name (number_some (names l) x.name (subst (λ (k : ℕ). 0 < k) np hp)) in
+    let mp = number_is (names l) x.name (number_some (names l) x.name (omega (arith, np))) in
     let mc = number_is (letters l) x.chain (number_some (letters l) x.chain (subst (λ (k : ℕ). 0 < k) nc hc)) in
-    let r : p - 1 ≡ place x.name (residue_order l) = omega (arith, np, mp) in
+    let r : i ≡ place x.name (residue_order l) = omega (arith, np, mp) in
     let q : c - 1 ≡ place x.chain (chain_order l) = omega (arith, nc, mc) in
     rw (r, q)
 
@@ -166,39 +169,45 @@ two_fronts out g g' a a' si sr ai ar eg ea apart =
     ∙ ap (λ (b : List ℕ). put b a' ar) (put_apart (put out g si) g' a sr ai apart)
 
 -- ---- the walk that writes: what is left, put behind what is there, makes the whole
-pub record Writing (s out₀ : List ℕ) (first second : ℕ) (out : List ℕ) (at : ℕ) (seen : Bool) (p : Places) : Type 0 where
-  pub inside : at ≤ length s
+pub record Writing (s out₀ : List ℕ) (first second : ℕ) (out : List ℕ) (w : Walk) (p : Places) : Type 0 where
   pub same : length out ≡ length out₀
   pub small : length out₀ < 18446744073709551616
-  pub named : Named (atoms_of s) (atoms (rest s at seen))
-  pub low : p.segment + 9 * length (segments (rest s at seen)) ≤ p.atom
-  pub room : p.atom + 33 * length (atoms (rest s at seen)) ≤ length out
+  pub named : Named (atoms_of s) (atoms (left w))
+  pub low : p.segment + 9 * length (segments (left w)) ≤ p.atom
+  pub room : p.atom + 33 * length (atoms (left w)) ≤ length out
   pub whole : put (put out₀ first (segments_from (atoms_of s) (records s))) second (atoms_from (atoms_of s) (records s))
-      ≡ put (put out p.segment (segments_from (atoms_of s) (rest s at seen))) p.atom (atoms_from (atoms_of s) (rest s at seen))
+      ≡ put (put out p.segment (segments_from (atoms_of s) (left w))) p.atom (atoms_from (atoms_of s) (left w))
 
 module _ (s out₀ : List ℕ) (first second : ℕ) where
   pub writing_start : length out₀ < 18446744073709551616 → first + 9 * length (segments_of s) ≤ second → second + 33 * length (atoms_of s) ≤ length out₀
-      → Writing s out₀ first second out₀ 0 false (record { segment = first; atom = second })
-  writing_start b l r = record { inside = omega arith; same = refl; small = b; named = λ f y m. m; low = l; room = r; whole = refl }
+      → (w : Walk) → Begins s w → Writing s out₀ first second out₀ w (record { segment = first; atom = second })
+  writing_start b l r w h = record {
+    same = refl;
+    small = b;
+    named = rw h.all (λ f y m. m);
+    low = rw h.all l;
+    room = rw h.all r;
+    whole = rw h.all refl;
+  }
 
-  module _ (out : List ℕ) (at : ℕ) (seen : Bool) (p : Places) (W : Writing s out₀ first second out at seen p) where
-    pub writing_over : rest s at seen ≡ [] → out ≡ put (put out₀ first (segments_from (atoms_of s) (records s))) second (atoms_from (atoms_of s) (records s))
+  module _ (out : List ℕ) (w : Walk) (p : Places) (W : Writing s out₀ first second out w p) where
+    pub writing_over : left w ≡ [] → out ≡ put (put out₀ first (segments_from (atoms_of s) (records s))) second (atoms_from (atoms_of s) (records s))
     unfolding put flat atoms segments
     writing_over e = sym (W.whole ∙ ap (λ (l : List Record). put (put out p.segment (segments_from (atoms_of s) l)) p.atom (atoms_from (atoms_of s) l)) e)
 
-    module _ (r : Record) (at' : ℕ) (seen' : Bool) (o : Onward s at seen r at' seen') where
-      segments_are : segments (rest s at seen) ≡ segments_in r ++ segments (rest s at' seen')
+    module _ (r : Record) (w' : Walk) (o : Onward w r w') where
+      segments_are : segments (left w) ≡ segments_in r ++ segments (left w')
       unfolding segments
       segments_are = ap segments o.is
 
-      atoms_are : atoms (rest s at seen) ≡ atoms_in r ++ atoms (rest s at' seen')
+      atoms_are : atoms (left w) ≡ atoms_in r ++ atoms (left w')
       unfolding atoms
       atoms_are = ap atoms o.is
 
-      fewer_segments : 9 * length (segments (rest s at seen)) ≡ 9 * length (segments_in r) + 9 * length (segments (rest s at' seen'))
+      fewer_segments : 9 * length (segments (left w)) ≡ 9 * length (segments_in r) + 9 * length (segments (left w'))
       fewer_segments = rw (segments_are, length-append) (omega arith)
 
-      fewer_atoms : 33 * length (atoms (rest s at seen)) ≡ 33 * length (atoms_in r) + 33 * length (atoms (rest s at' seen'))
+      fewer_atoms : 33 * length (atoms (left w)) ≡ 33 * length (atoms_in r) + 33 * length (atoms (left w'))
       fewer_atoms = rw (atoms_are, length-append) (omega arith)
 
       pub writing_segment : p.segment + 9 * length (segments_in r) ≤ length out
@@ -212,12 +221,11 @@ module _ (s out₀ : List ℕ) (first second : ℕ) where
 
       pub writing_more : (out' : List ℕ) (q : Places) → out' ≡ put (put out p.segment (segments_from (atoms_of s) (r ∷ []))) p.atom (atoms_from (atoms_of s) (r ∷ []))
           → q.segment ≡ p.segment + 9 * length (segments_in r) → q.atom ≡ p.atom + 33 * length (atoms_in r)
-          → Writing s out₀ first second out' at' seen' q
+          → Writing s out₀ first second out' w' q
       unfolding segments atoms
       writing_more out' q e es ea =
           let k : length out' ≡ length out = kept _ _ _ e ∙ length_put out p.segment _ in
           record {
-            inside = o.within;
             same = k ∙ W.same;
             small = W.small;
             named = named_on (atoms_of s) _ (atoms_in r) _ atoms_are W.named;
@@ -226,15 +234,15 @@ module _ (s out₀ : List ℕ) (first second : ℕ) where
             whole = W.whole ∙ on;
           }
         where
-          on : put (put out p.segment (segments_from (atoms_of s) (rest s at seen))) p.atom (atoms_from (atoms_of s) (rest s at seen))
-              ≡ put (put out' q.segment (segments_from (atoms_of s) (rest s at' seen'))) q.atom (atoms_from (atoms_of s) (rest s at' seen'))
+          on : put (put out p.segment (segments_from (atoms_of s) (left w))) p.atom (atoms_from (atoms_of s) (left w))
+              ≡ put (put out' q.segment (segments_from (atoms_of s) (left w'))) q.atom (atoms_from (atoms_of s) (left w'))
           on =
-              rw (segments_are, atoms_are, bytes_on segment_bytes (to_segment (atoms_of s)) (segments_in r) (segments (rest s at' seen')), bytes_on atom_bytes (to_atom (atoms_of s)) (atoms_in r) (atoms (rest s at' seen')))
+              rw (segments_are, atoms_are, bytes_on segment_bytes (to_segment (atoms_of s)) (segments_in r) (segments (left w')), bytes_on atom_bytes (to_atom (atoms_of s)) (atoms_in r) (atoms (left w')))
               (two_fronts out p.segment q.segment p.atom q.atom _ _ _ _
               (es ∙ ap (λ (n : ℕ). p.segment + n) (sym (long_segments (segments_in r))))
               (ea ∙ ap (λ (n : ℕ). p.atom + n) (sym (long_atoms (atoms_in r))))
-              (omega (arith, W.low, fewer_segments, bytes_long segment_bytes (to_segment (atoms_of s)) 9 wide_segment (segments (rest s at' seen'))))
-              ∙ ap (λ (b : List ℕ). put (put b q.segment (segments_from (atoms_of s) (rest s at' seen'))) q.atom (atoms_from (atoms_of s) (rest s at' seen'))) (sym e))
+              (omega (arith, W.low, fewer_segments, bytes_long segment_bytes (to_segment (atoms_of s)) 9 wide_segment (segments (left w'))))
+              ∙ ap (λ (b : List ℕ). put (put b q.segment (segments_from (atoms_of s) (left w'))) q.atom (atoms_from (atoms_of s) (left w'))) (sym e))
             where
               long_segments : (m : List SegmentLine) → length (flat segment_bytes (map (to_segment (atoms_of s)) (m ++ []))) ≡ 9 * length m
               long_segments m = bytes_long segment_bytes (to_segment (atoms_of s)) 9 wide_segment (m ++ []) ∙ ap (λ (l : List SegmentLine). 9 * length l) (append-nil m)

@@ -1,5 +1,5 @@
 // The records of the job: what a line gives, by the tables of a survey, and the walk that writes them.
-ghost use Rattle.std.specs.Prelude.{◌≡◌, List, [], ◌∷◌, ℕ, ◌+◌, ◌*◌, ◌<◌, ◌≤◌, length, get_or};
+ghost use Rattle.std.specs.Prelude.{◌≡◌, List, [], ◌∷◌, ℕ, ◌+◌, ◌*◌, ◌<◌, ◌≤◌, length, get_or, IfSome, MatchOption};
 ghost use Rattle.appearance.specs.Index.{Index, Keyed, is_key};
 ghost use Rattle.lists.specs.Search.{last};
 ghost use Rattle.lists.specs.Put.{put};
@@ -9,18 +9,17 @@ ghost use Rattle.pdb_job.specs.Structure.{to_atom, to_segment, chains_of};
 ghost use Rattle.pdb_job.specs.Parts.{Held, segments_from, atoms_from};
 
 use job_writer::{JobAtom, JobSegment};
-use pdb_file::Next;
 use pdb_records::{AtomLine, Record, SegmentLine};
 
-// What the table `ends` has from place `base` on for the residue numbered `p` from 1; 0 for none.
-fn serial_at(ends: &[u64; 32768], base: usize, p: usize) -> u64
-    requires { (base ≤ 16384) × (p ≤ 16384) }
-    ensures { (p ≡ 0 → result ≡ 0) × ((i : ℕ) → p ≡ i + 1 → result ≡ get_or ends.now (base + i) 0) }
+// What the table `ends` has from place `base` on for a residue that was found; 0 for none.
+fn serial_at(ends: &[u64; 32768], base: usize, found: Option<usize>) -> u64
+    requires { (base ≤ 16384) × IfSome found (λ i. i < 16384) }
+    ensures { MatchOption found (result ≡ 0) (λ i. result ≡ get_or ends.now (base + i) 0) }
 {
-    if p == 0 {
-        return 0;
+    match found {
+        Some(i) => ends[base + i],
+        None => 0,
     }
-    ends[base + (p - 1)]
 }
 
 // A segment of the job runs from the first atom of its first residue to the last of its last.
@@ -56,13 +55,12 @@ fn to_atom(
     requires { (Index keys.now links.now n) × (0 < last (is_key keys.now x.name) n) × (0 < get_or marks.now x.chain 0) }
     ensures { (l : List AtomLine) → Keyed keys.now n (names l) → Marks marks.now (chains_of l) (letters l) → result ≡ to_atom l x }
 {
-    let p = appearance::find(keys, links, n, x.name);
-    let i = x.chain as usize;
-    let c = marks[i];
+    let residue = appearance::find(keys, links, n, x.name).unwrap();
+    let c = marks[x.chain as usize];
     JobAtom {
         serial: x.serial,
         role: x.role,
-        residue: (p - 1) as u64,
+        residue: residue as u64,
         chain: (c - 1) as u64,
         x: x.x,
         y: x.y,
@@ -100,20 +98,18 @@ fn write_record(
             job_writer::put_segment(out, at.segment, j);
             Places {
                 segment: at.segment + 9,
-                atom: at.atom,
+                ..at
             }
         }
         Record::AnAtom(a) => {
             let j = to_atom(keys, links, marks, n, a);
             job_writer::put_atom(out, at.atom, j);
             Places {
-                segment: at.segment,
                 atom: at.atom + 33,
+                ..at
             }
         }
-        Record::Skipped => at,
-        Record::Short => at,
-        Record::BadNumber => at,
+        _ => at,
     }
 }
 
@@ -135,19 +131,11 @@ pub fn write_records(
     ensures { out.new ≡ put (put out.old first (segments_from (atoms_of s.now) (records s.now))) second
         (atoms_from (atoms_of s.now) (records s.now)) }
 {
-    let mut at = 0;
-    let mut seen = false;
     let mut places = Places {
         segment: first,
         atom: second,
     };
-    loop {
-        let next = pdb_file::step(s, at, seen);
-        let Next::Got(r, a, v) = next else {
-            return;
-        };
+    for r in pdb_file::records(s) {
         places = write_record(keys, links, ends, marks, n, out, places, r);
-        at = a;
-        seen = v;
     }
 }

@@ -7,8 +7,10 @@ use native.Mathlib.Numerals.{add-one}
 use native.Mathlib.Omega.{arith}
 use lib.Dec.{eqb}
 use lib.ListN.{length, take, drop, get_or, length-drop, length-take, drop_of_length-le}
-use Rattle.lists.proofs.Any.{part_place}
-use Rattle.lists.proofs.Sames.{same_length, same_all, same_one}
+use Rattle.lists.specs.Same.{same_list}
+use Rattle.lists.proofs.Bools.{eqb_sym}
+use Rattle.std.specs.Bool.{nat_eq}
+use Rattle.std.specs.Cmp.Lexicographic.{pointwise}
 use Rattle.pdb_lines.specs.Columns.{named}
 use lib.Seq.{drop-cons, take-suc, get_or-drop, drop-drop}
 use borrow.Author.Tests.{eq-eqb, ne_eqb}
@@ -131,23 +133,16 @@ pub start : (s : List ℕ) (at : ℕ) → lines (drop at s) ≡ ontos (take (at 
 unfolding ontos
 start s at = let e : at - at ≡ 0 = omega arith in rw e
 
-module _ (l name : List ℕ) (from : ℕ) where
-  at_column : from + 1 - 1 ≡ from
-  at_column = omega arith
+-- the test of two lists, byte by byte, whichever stands first
+pointwise_same : (xs ys : List ℕ) → pointwise nat_eq ys xs ≡ same_list xs ys
+unfolding same_list
+pointwise_same [] [] = refl
+pointwise_same [] (y ∷ ys) = refl
+pointwise_same (x ∷ xs) [] = refl
+pointwise_same (x ∷ xs) (y ∷ ys) = rw (eqb_sym y x, pointwise_same xs ys)
 
-  pub named_short : length l - from < length name → false ≡ named name (from + 1) l
-  unfolding named
-  named_short h = rw (at_column, same_length (take (length name) (drop from l)) name (λ e. absurd (omega (arith, simp (length-take, length-drop) at e))))
-
-  cut_length : length name ≤ length l - from → length (take (length name) (drop from l)) ≡ length name
-  cut_length h = simp (length-take, length-drop) (omega arith)
-
-  pub named_no : (i : ℕ) → length name ≤ length l - from → i < length name → (get_or l (from + i) 0 ≡ get_or name i 0 → ⊥) → false ≡ named name (from + 1) l
-  unfolding named
-  named_no i h b d =
-      rw (at_column, same_one (take (length name) (drop from l)) name i b (λ e. d (part_place l from (length name) i 0 refl b ∙ e)) (cut_length h))
-
-  pub named_yes : length name ≤ length l - from → ((k : ℕ) → k < length name → get_or l (from + k) 0 ≡ get_or name k 0) → true ≡ named name (from + 1) l
-  unfolding named
-  named_yes h d =
-      rw (at_column, same_all (take (length name) (drop from l)) name (cut_length h) (λ k b. sym (part_place l from (length name) k 0 refl b) ∙ d k b))
+pub starts_named : (l name : List ℕ) (from : ℕ) → pointwise nat_eq name (take (length name) (drop from l)) ≡ named name (from + 1) l
+unfolding named
+starts_named l name from =
+    let e : from + 1 - 1 ≡ from = omega arith in
+    rw e (pointwise_same (take (length name) (drop from l)) name)

@@ -33,25 +33,14 @@ fn ending_at(s: &[u8], i: usize) -> usize
     0
 }
 
-fn lesser(a: u8, b: u8) -> u8
-    ensures { (result ≤ a) × (result ≤ b) }
-{
-    if b < a {
-        return b;
-    }
-    a
-}
-
 // A bound of the 16 bytes from `i` on: none is below it. They are all read, whatever stands there, so that the machine compares 16 at once.
 fn least_byte(s: &[u8], i: usize) -> u8
     requires { i + 16 ≤ length s.now }
     ensures { (k : ℕ) → k < 16 → result ≤ get_or s.now (i + k) 0 }
 {
     let mut least = 255u8;
-    let mut k = 0usize;
-    while k < 16 {
-        least = lesser(least, s[i + k]);
-        k += 1;
+    for k in 0usize..16 {
+        least = least.min(s[i + k]);
     }
     least
 }
@@ -77,15 +66,16 @@ pub fn line_at(s: &[u8], at: usize) -> Line
     requires { at < length s.now }
     ensures { Cut s.now at result.to result.next }
 {
-    let mut i = past_plain(s, at);
-    while i < s.len() {
+    for i in past_plain(s, at)..s.len() {
         let e = ending_at(s, i);
         if 0 < e {
             return Line { to: i, next: i + e };
         }
-        i += 1;
     }
-    Line { to: i, next: i }
+    Line {
+        to: s.len(),
+        next: s.len(),
+    }
 }
 
 // Whether the bytes of `name` stand at `from`.
@@ -93,15 +83,5 @@ pub fn is_at(l: &[u8], from: usize, name: &[u8]) -> bool
     requires { from ≤ length l.now }
     ensures { result ≡ named name.now (from + 1) l.now }
 {
-    if l.len() - from < name.len() {
-        return false;
-    }
-    let mut i = 0;
-    while i < name.len() {
-        if l[from + i] != name[i] {
-            return false;
-        }
-        i += 1;
-    }
-    true
+    l[from..].starts_with(name)
 }

@@ -3,7 +3,6 @@ ghost use Rattle.std.specs.Prelude.{◌≤◌, length};
 
 use crate::quote::say_bytes;
 use files::{STDERR_FILENO, say};
-use pdb_fields::Number;
 use pdb_records::{Kind, Record};
 
 // Where line `n` begins, counted from 1.
@@ -12,45 +11,17 @@ fn place_of(s: &[u8], n: usize) -> usize
 {
     let mut at = 0;
     let mut line = 1;
-    while at < s.len() {
-        if n <= line {
-            break;
-        }
-        let l = pdb_lines::line_at(s, at);
-        at = l.next;
+    while at < s.len() && line < n {
+        at = pdb_lines::line_at(s, at).next;
         line += 1;
     }
     at
 }
 
-fn is_whole(l: &[u8]) -> bool
-    requires { length l.now ≤ 8 }
-{
-    let n = pdb_fields::whole_in(l);
-    match n {
-        Number::Bad => false,
-        Number::Good { .. } => true,
-    }
-}
-
 fn is_serial(l: &[u8]) -> bool
     requires { length l.now ≤ 8 }
 {
-    let n = pdb_fields::whole_in(l);
-    match n {
-        Number::Bad => false,
-        Number::Good { minus, .. } => !minus,
-    }
-}
-
-fn is_coordinate(l: &[u8]) -> bool
-    requires { length l.now ≤ 8 }
-{
-    let n = pdb_fields::thousandths_in(l);
-    match n {
-        Number::Bad => false,
-        Number::Good { .. } => true,
-    }
+    pdb_fields::whole_in(l).is_some_and(|n| !n.minus)
 }
 
 // The first number of an ATOM line that is not right.
@@ -62,64 +33,50 @@ fn blame_atom(l: &[u8]) {
         say(b"its columns 7 to 11 are no serial: digits between blanks\n");
         return;
     }
-    if !is_whole(&l[22..26]) {
-        say(
-            b"its columns 23 to 26 are no residue number: a minus or none, and digits, between blanks\n",
-        );
+    if pdb_fields::whole_in(&l[22..26]).is_none() {
+        say(b"its columns 23 to 26");
+        say_no_number();
         return;
     }
-    if !is_coordinate(&l[30..38]) {
+    if pdb_fields::thousandths_in(&l[30..38]).is_none() {
         say(b"its columns 31 to 38, x, are no number with a point and three digits behind it\n");
         return;
     }
-    if !is_coordinate(&l[38..46]) {
+    if pdb_fields::thousandths_in(&l[38..46]).is_none() {
         say(b"its columns 39 to 46, y, are no number with a point and three digits behind it\n");
         return;
     }
-    if !is_coordinate(&l[46..54]) {
+    if pdb_fields::thousandths_in(&l[46..54]).is_none() {
         say(b"its columns 47 to 54, z, are no number with a point and three digits behind it\n");
     }
 }
 
-fn blame_helix(l: &[u8]) {
-    if l.len() < 38 {
-        return;
-    }
-    if !is_whole(&l[21..25]) {
-        say(
-            b"its columns 22 to 25 are no residue number: a minus or none, and digits, between blanks\n",
-        );
-        return;
-    }
-    say(
-        b"its columns 34 to 37 are no residue number: a minus or none, and digits, between blanks\n",
-    );
+fn say_no_number() {
+    say(b" are no residue number: a minus or none, and digits, between blanks\n");
 }
 
-fn blame_sheet(l: &[u8]) {
+// A HELIX or SHEET line: which of its two residue numbers is not right. The first one's columns depend on its kind, and are named by `columns`.
+fn blame_segment(l: &[u8], from: usize, columns: &[u8])
+    requires { from ≤ 34 }
+{
     if l.len() < 38 {
         return;
     }
-    if !is_whole(&l[22..26]) {
-        say(
-            b"its columns 23 to 26 are no residue number: a minus or none, and digits, between blanks\n",
-        );
-        return;
+    if pdb_fields::whole_in(&l[from..from + 4]).is_none() {
+        say(columns);
+    } else {
+        say(b"its columns 34 to 37");
     }
-    say(
-        b"its columns 34 to 37 are no residue number: a minus or none, and digits, between blanks\n",
-    );
+    say_no_number();
 }
 
 fn blame_number(l: &[u8]) {
     let k = pdb_records::kind_of(l);
     match k {
         Kind::Atom => blame_atom(l),
-        Kind::Helix => blame_helix(l),
-        Kind::Sheet => blame_sheet(l),
-        Kind::Model => {}
-        Kind::Endmdl => {}
-        Kind::Other => {}
+        Kind::Helix => blame_segment(l, 21, b"its columns 22 to 25"),
+        Kind::Sheet => blame_segment(l, 22, b"its columns 23 to 26"),
+        _ => {}
     }
 }
 
@@ -128,19 +85,14 @@ fn say_residue(l: &[u8], k: Kind, start: bool) {
     if l.len() < 38 {
         return;
     }
-    if !start {
-        if let Kind::Helix = k {
-            say_bytes(&l[27..38], true);
-            return;
-        }
-        say_bytes(&l[28..38], true);
-        return;
-    }
-    if let Kind::Helix = k {
-        say_bytes(&l[15..26], true);
-        return;
-    }
-    say_bytes(&l[17..27], true);
+    let helix = k == Kind::Helix;
+    let residue = match (start, helix) {
+        (true, true) => &l[15..26],
+        (true, false) => &l[17..27],
+        (false, true) => &l[27..38],
+        (false, false) => &l[28..38],
+    };
+    say_bytes(residue, true);
 }
 
 fn blame_residue(s: &[u8], l: &[u8]) {

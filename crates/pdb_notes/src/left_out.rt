@@ -6,7 +6,7 @@ ghost use Rattle.pdb_notes.specs.Notes.{names_of, modelled, resolved};
 
 use crate::quote::say_bytes;
 use files::say;
-use pdb_search::{Next, What, name_in, next_line};
+use pdb_search::{What, name_in, next_line};
 
 // How many residues have a C-alpha in ATOM lines, and how many in ATOM or HETATM lines; 16,384 stands for so many or more.
 #[derive(Drop)]
@@ -36,10 +36,7 @@ fn tell_name(l: &[u8], before: usize) {
 
 // A residue that is new is told: there were `before` of them, and are `now` with it.
 fn tell_new(tell: bool, l: &[u8], before: usize, now: usize) {
-    if !tell {
-        return;
-    }
-    if before < now {
+    if tell && before < now {
         tell_name(l, before);
     }
 }
@@ -61,8 +58,7 @@ fn gather(
     let mut seen = false;
     let mut m = n;
     loop {
-        let next = next_line(s, at, seen, w);
-        let Next::Got(p) = next else {
+        let Some(p) = next_line(s, at, seen, w) else {
             return m;
         };
         let from = p.at;

@@ -10,7 +10,7 @@ use fault::{Blame, blame_line};
 use files::{STDERR_FILENO, say};
 use job::Refusal;
 use left_out::count_residues;
-use pdb_search::{Next, What, count_lines, next_line};
+use pdb_search::{What, count_lines, next_line};
 use quote::say_bytes;
 
 fn say_number(name: &[u8], n: usize) {
@@ -29,17 +29,6 @@ fn tell_counts(job: &[u8], alphas: usize) {
     say_number(b" atoms ", numbers::u16_at(job, 11));
     say_number(b" C-alphas ", alphas);
     say(b"\n");
-}
-
-fn has_byte(s: &[u8], b: u8) -> bool {
-    let mut i = 0;
-    while i < s.len() {
-        if s[i] == b {
-            return true;
-        }
-        i += 1;
-    }
-    false
 }
 
 // A file with no ATOM line may be something else.
@@ -75,17 +64,11 @@ fn tell_form(s: &[u8]) {
 
 // The mark of UTF-16 text.
 fn is_wide(s: &[u8]) -> bool {
-    if pdb_lines::is_at(s, 0, &[255u8, 254u8]) {
-        return true;
-    }
-    pdb_lines::is_at(s, 0, &[254u8, 255u8])
+    pdb_lines::is_at(s, 0, &[255u8, 254u8]) || pdb_lines::is_at(s, 0, &[254u8, 255u8])
 }
 
 fn has_atoms(job: &[u8]) -> bool {
-    if job.len() < 13 {
-        return false;
-    }
-    0 < numbers::u16_at(job, 11)
+    13 <= job.len() && 0 < numbers::u16_at(job, 11)
 }
 
 fn tell_alphas(alphas: usize) {
@@ -98,10 +81,7 @@ fn tell_alphas(alphas: usize) {
 
 // CR alone ends no line: the whole file is one.
 fn is_one_line(s: &[u8]) -> bool {
-    if has_byte(s, 10) {
-        return false;
-    }
-    has_byte(s, 13)
+    !s.contains(&b'\n') && s.contains(&b'\r')
 }
 
 fn tell_line(s: &[u8]) {
@@ -119,8 +99,7 @@ fn tell_misspelt(s: &[u8]) {
             b"note: the file begins with a byte-order mark, so that its first line is passed over: save it as plain ASCII\n",
         );
     }
-    let next = next_line(s, 0, false, What::Misspelt);
-    let Next::Got(p) = next else {
+    let Some(p) = next_line(s, 0, false, What::Misspelt) else {
         return;
     };
     let from = p.at;

@@ -12,9 +12,9 @@ use Rattle.job.specs.declared.Refusal.TheVariants.{PastLimits, NoJobRoom}
 use Rattle.appearance.specs.Order.{member, distinct, numbered}
 use Rattle.appearance.proofs.Holding.{empty_index}
 use Rattle.pdb_records.specs.declared.AtomLine.{AtomLine}
-use Rattle.pdb_file.specs.Faults.{fault_in, is_clean}
+use Rattle.pdb_file.specs.Faults.{fault_in}
 use Rattle.pdb_file.specs.declared.Fault.{Fault}
-use Rattle.pdb_file.specs.declared.Fault.TheVariants.{Clean, LineShort, LineWrong, NoResidue}
+use Rattle.pdb_file.specs.declared.Fault.TheVariants.{LineShort, LineWrong, NoResidue}
 use Rattle.pdb_survey.specs.Tables.{Noted, Surveyed}
 use Rattle.pdb_survey.proofs.Walk.{noted_whole}
 use Rattle.pdb_survey.specs.declared.FileCounts.{FileCounts}
@@ -23,9 +23,9 @@ use Rattle.pdb_job.specs.Structure.{Structure, chains_of, residues_of, structure
 use Rattle.pdb_job.specs.Counted.{Counted, Limited}
 use Rattle.pdb_faults.proofs.AtFault.{clean_is, all_ahead}
 use Rattle.pdb_reader.specs.Call.{past_limits, by_fault, read_checks, read_answer, read_by, buffer_after, Reads}
-use Rattle.pdb_reader.specs.declared.Read.{Read}
-use Rattle.pdb_reader.specs.declared.Read.TheVariants.{Written, NoJob}
 use Rattle.lists.proofs.Bools.{or_no}
+use Rattle.std.specs.Prelude.{Result, Ok, Err, Option, Some, None, is_none}
+use Rattle.job.specs.declared.Refusal.{Refusal}
 
 -- ---- 15: the limits
 pub limited : (x : Structure) → past_limits x ≡ false → Limited x
@@ -74,18 +74,18 @@ module _ (x : Structure) (c : FileCounts) (g : ℕ) (C : Counted x c g) where
 
 -- ---- 15 and 16
 module _ (x : Structure) (out : List ℕ) where
-  pub refuse_limits : (r : Read) → r ≡ NoJob PastLimits → past_limits x ≡ true → r ≡ read_checks x (length out)
+  pub refuse_limits : (r : Result ℕ Refusal) → r ≡ Err PastLimits → past_limits x ≡ true → r ≡ read_checks x (length out)
   unfolding read_checks
   refuse_limits r e m = e ∙ simp m
 
   module _ (few : past_limits x ≡ false) (size : ℕ) (is : size ≡ structure_size x) where
-    pub refuse_room : length out < size → NoJob (NoJobRoom size) ≡ read_checks x (length out)
+    pub refuse_room : length out < size → Err (NoJobRoom size) ≡ read_checks x (length out)
     unfolding read_checks
-    refuse_room h = simp (few, lt-ltb (length out) (structure_size x) (subst (λ (n : ℕ). length out < n) is h)) (ap (λ (n : ℕ). NoJob (NoJobRoom n)) is)
+    refuse_room h = simp (few, lt-ltb (length out) (structure_size x) (subst (λ (n : ℕ). length out < n) is h)) (ap (λ (n : ℕ). Err (NoJobRoom n)) is)
 
-    pub accept : size ≤ length out → Written size ≡ read_checks x (length out)
+    pub accept : size ≤ length out → Ok size ≡ read_checks x (length out)
     unfolding read_checks
-    accept h = simp (few, le-ltb (length out) (structure_size x) (subst (λ (n : ℕ). n ≤ length out) is h)) (ap Written is)
+    accept h = simp (few, le-ltb (length out) (structure_size x) (subst (λ (n : ℕ). n ≤ length out) is h)) (ap Ok is)
 
 -- ---- the survey's tables at the start, and what it told
 pub empty_tables : Noted (replicate 16384 0) (replicate 32768 0) (replicate 32768 0) (replicate 256 0) (record { atoms = 0; residues = 0; chains = 0; more = false }) []
@@ -107,7 +107,7 @@ pub noted_same : (keys keys' links links' ends marks : List ℕ) (c : FileCounts
     → Noted keys' links' ends marks c l
 noted_same keys keys' links links' ends marks c l N e f = rw (e, f) N
 
-pub surveyed_counts : (s keys links ends marks : List ℕ) (v : Overview) → Surveyed s keys links ends marks v → is_clean (fault_in s) ≡ true → Counted (structure_of s) v.counts v.ahead
+pub surveyed_counts : (s keys links ends marks : List ℕ) (v : Overview) → Surveyed s keys links ends marks v → is_none (fault_in s) ≡ true → Counted (structure_of s) v.counts v.ahead
 surveyed_counts s keys links ends marks v S e = record {
   past = λ m. S.noted.past m;
   few = λ m. omega (arith, S.noted.known.index.few, (S.noted.known.all m).count);
@@ -120,38 +120,34 @@ surveyed_counts s keys links ends marks v S e = record {
 -- ---- the whole answer
 
 -- what is THE answer and leaves THE contents keeps the promise
-reads : (s out : List ℕ) (r : Read) (out' : List ℕ)
+reads : (s out : List ℕ) (r : Result ℕ Refusal) (out' : List ℕ)
     → r ≡ read_answer s (length out) → out' ≡ buffer_after s out → Reads s out r out'
 reads s out r out' e b = record { answer = cc; buffer = cc }
 
-module _ (s out : List ℕ) (f : Fault) (ef : f ≡ fault_in s) where
-  by_fault_is : (r : Read) → by_fault f (read_checks (structure_of s) (length out)) ≡ r → read_answer s (length out) ≡ r
+module _ (s out : List ℕ) (f : Option Fault) (ef : f ≡ fault_in s) where
+  by_fault_is : (r : Result ℕ Refusal) → by_fault f (read_checks (structure_of s) (length out)) ≡ r → read_answer s (length out) ≡ r
   unfolding read_answer
-  by_fault_is r e = ap (λ (g : Fault). by_fault g (read_checks (structure_of s) (length out))) (sym ef) ∙ e
+  by_fault_is r e = ap (λ (g : Option Fault). by_fault g (read_checks (structure_of s) (length out))) (sym ef) ∙ e
 
-  by_answer : (r : Read) (out' : List ℕ) → read_answer s (length out) ≡ r → out' ≡ read_by r s out → Reads s out r out'
+  by_answer : (r : Result ℕ Refusal) (out' : List ℕ) → read_answer s (length out) ≡ r → out' ≡ read_by r s out → Reads s out r out'
   unfolding buffer_after
-  by_answer r out' e b = reads s out r out' (sym e) (b ∙ ap (λ (x : Read). read_by x s out) (sym e))
+  by_answer r out' e b = reads s out r out' (sym e) (b ∙ ap (λ (x : Result ℕ Refusal). read_by x s out) (sym e))
 
   -- a fault, or counts past the limits
-  pub refused : (r : Read) → r ≡ by_fault f (NoJob PastLimits)
-      → (is_clean f ≡ true → past_limits (structure_of s) ≡ true) → Reads s out r out
+  pub refused : (r : Result ℕ Refusal) → r ≡ by_fault f (Err PastLimits)
+      → (is_none f ≡ true → past_limits (structure_of s) ≡ true) → Reads s out r out
   unfolding read_checks
   refused r er past = by_answer r out (by_fault_is r (go f past ∙ sym er)) (rw er (kept f))
     where
-      go : (g : Fault) → (is_clean g ≡ true → past_limits (structure_of s) ≡ true)
-          → by_fault g (read_checks (structure_of s) (length out)) ≡ by_fault g (NoJob PastLimits)
-      go Clean p = simp (p refl)
-      go (LineShort n) p = refl
-      go (LineWrong n) p = refl
-      go (NoResidue n) p = refl
+      go : (g : Option Fault) → (is_none g ≡ true → past_limits (structure_of s) ≡ true)
+          → by_fault g (read_checks (structure_of s) (length out)) ≡ by_fault g (Err PastLimits)
+      go None p = simp (p refl)
+      go (Some x) p = refl
 
-      kept : (g : Fault) → out ≡ read_by (by_fault g (NoJob PastLimits)) s out
-      kept Clean = refl
-      kept (LineShort n) = refl
-      kept (LineWrong n) = refl
-      kept (NoResidue n) = refl
+      kept : (g : Option Fault) → out ≡ read_by (by_fault g (Err PastLimits)) s out
+      kept None = refl
+      kept (Some x) = refl
 
-  pub right : is_clean f ≡ true → (r : Read) (out' : List ℕ)
+  pub right : is_none f ≡ true → (r : Result ℕ Refusal) (out' : List ℕ)
       → r ≡ read_checks (structure_of s) (length out) → out' ≡ read_by r s out → Reads s out r out'
   right c r out' er eo = by_answer r out' (by_fault_is r (rw (clean_is f c) (sym er))) eo

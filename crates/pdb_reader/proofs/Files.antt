@@ -28,13 +28,14 @@ use Rattle.pdb_records.specs.declared.Record.TheVariants.{Skipped}
 use Rattle.pdb_records.specs.declared.AtomLine.{AtomLine}
 use Rattle.pdb_records.specs.declared.SegmentLine.{SegmentLine}
 use Rattle.pdb_file.specs.Reading.{stops, saw, reading, records, atoms_in, atoms, segments_in, segments, atoms_of, segments_of}
-use Rattle.pdb_file.specs.Faults.{fault_of, first_fault, faults, fault_in}
+use Rattle.pdb_file.specs.Faults.{fault_of, faults, fault_in}
+use Rattle.std.specs.Option.{option_or}
 use Rattle.pdb_file.specs.declared.Fault.{Fault}
 use Rattle.pdb_job.specs.Structure.{Structure, structure_job, structure_of, pdb_job}
 use Rattle.pdb_reader.specs.Call.{past_limits, by_fault, read_checks, read_answer, read_by, buffer_after, Reads}
-use Rattle.pdb_reader.specs.declared.Read.{Read}
-use Rattle.pdb_reader.specs.declared.Read.TheVariants.{Written, NoJob}
 use Rattle.pdb_reader.proofs.Demands.{answered}
+use Rattle.std.specs.Prelude.{Result, Ok, Err, Option}
+use Rattle.job.specs.declared.Refusal.{Refusal}
 
 -- ==== files that are the same to the reader
 
@@ -42,7 +43,7 @@ use Rattle.pdb_reader.proofs.Demands.{answered}
 -- for one job
 pub record Alike (s t : List ℕ) : Type 0 where
   pub job : pdb_job s ≡ pdb_job t
-  pub calls : (out out' out₂ : List ℕ) (r r₂ : Read)
+  pub calls : (out out' out₂ : List ℕ) (r r₂ : Result ℕ Refusal)
       → Reads s out r out' → Reads t out r₂ out₂ → (r ≡ r₂) × (out' ≡ out₂)
 
 -- the atoms and segments, and the first fault, are all that the reader makes of a file
@@ -56,14 +57,14 @@ same_structure s t e f =
     }
   where
     answer : (room : ℕ) → read_answer s room ≡ read_answer t room
-    answer room = ap (λ (g : Fault). by_fault g (read_checks (structure_of s) room)) f ∙ ap (λ (x : Structure). by_fault (fault_in t) (read_checks x room)) e
+    answer room = ap (λ (g : Option Fault). by_fault g (read_checks (structure_of s) room)) f ∙ ap (λ (x : Structure). by_fault (fault_in t) (read_checks x room)) e
 
-    each : (out : List ℕ) (r : Read) → read_by r s out ≡ read_by r t out
-    each out (Written n) = ap (λ (x : Structure). put out 0 (structure_job x)) e
-    each out (NoJob r) = refl
+    each : (out : List ℕ) (r : Result ℕ Refusal) → read_by r s out ≡ read_by r t out
+    each out (Ok n) = ap (λ (x : Structure). put out 0 (structure_job x)) e
+    each out (Err r) = refl
 
     buffer : (out : List ℕ) → buffer_after s out ≡ buffer_after t out
-    buffer out = ap (λ (x : Read). read_by x s out) (answer (length out)) ∙ each out (read_answer t (length out))
+    buffer out = ap (λ (x : Result ℕ Refusal). read_by x s out) (answer (length out)) ∙ each out (read_answer t (length out))
 
 -- files with the same records are the same to the reader
 pub same_records : (s t : List ℕ) → records s ≡ records t → Alike s t
@@ -92,7 +93,7 @@ unfolding atoms segments faults
 empty_line s t j =
     let a : atoms_of t ≡ atoms_of s = rw j (passed_over (λ (n : ℕ). atoms) (λ n. refl) (λ n r rs rs' e. ap (λ (l : List AtomLine). atoms_in r ++ l) e) 0 false (lines s)) in
     let g : segments_of t ≡ segments_of s = rw j (passed_over (λ (n : ℕ). segments) (λ n. refl) (λ n r rs rs' e. ap (λ (l : List SegmentLine). segments_in r ++ l) e) 0 false (lines s)) in
-    let f : fault_in t ≡ fault_in s = rw (a, j) (passed_over (faults (atoms_of s)) (λ n. refl) (λ n r rs rs' e. ap (first_fault (fault_of (atoms_of s) n r)) e) 1 false (lines s)) in
+    let f : fault_in t ≡ fault_in s = rw (a, j) (passed_over (faults (atoms_of s)) (λ n. refl) (λ n r rs rs' e. ap (option_or (fault_of (atoms_of s) n r)) e) 1 false (lines s)) in
     same_structure t s (λ i. record { atoms = a i; segments = g i }) f
 
 -- an LF added at the end of a file whose last byte is no CR
@@ -177,6 +178,6 @@ one_job role =
 
 -- " CA " gives a C-alpha and "CA  " an atom of role 0, in a job of 47 bytes: 47 places suffice and 46 do not
 pub one_atom_lem : (pdb_job (one_atom CA) ≡ one_job 1) × (pdb_job (one_atom (67 ∷ 65 ∷ 32 ∷ 32 ∷ [])) ≡ one_job 0)
-    × (read_answer (one_atom CA) 47 ≡ Written 47) × (read_answer (one_atom CA) 46 ≡ NoJob (NoJobRoom 47))
+    × (read_answer (one_atom CA) 47 ≡ Ok 47) × (read_answer (one_atom CA) 46 ≡ Err (NoJobRoom 47))
 unfolding read_answer read_checks past_limits structure_job job_bytes head_bytes atom_bytes point u64 u32 u16 flat lines reading line_kind of_kind atom_of role_of named same_list whole thousandths run decimal bits coordinate round to_bits atoms segments distinct member place faults
 one_atom_lem = (refl, refl, refl, refl)

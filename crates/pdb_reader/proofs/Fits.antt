@@ -4,9 +4,9 @@ use mathlib.Core.List.{List}
 use mathlib.Core.Path.{◌≡◌, subst}
 use lib.ListN.{length}
 use Rattle.pdb_reader.specs.Call.{Reads}
-use Rattle.pdb_reader.specs.declared.Read.{Read}
-use Rattle.pdb_reader.specs.declared.Read.TheVariants.{Written}
 use Rattle.pdb_reader.proofs.Demands.{accepted}
+use Rattle.std.specs.Prelude.{Result, Ok}
+use Rattle.job.specs.declared.Refusal.{Refusal}
 
-pub written_fits : {s out out' : List ℕ} {r : Read} {n : ℕ} → Reads s out r out' → r ≡ Written n → n ≤ length out
-written_fits {s} {out} {out'} h e = (accepted (subst (λ (r : Read). Reads s out r out') e h)).fits
+pub written_fits : {s out out' : List ℕ} {r : Result ℕ Refusal} {n : ℕ} → Reads s out r out' → r ≡ Ok n → n ≤ length out
+written_fits {s} {out} {out'} h e = (accepted (subst (λ (r : Result ℕ Refusal). Reads s out r out') e h)).fits

@@ -10,14 +10,11 @@ use Rattle.job_writer.proofs.Fine.{Placed}
 use Rattle.coordinates.specs.Coordinate.{bits}
 use Rattle.pdb_lines.specs.Columns.{column, columns, named}
 use Rattle.pdb_fields.specs.Numbers.{whole, thousandths}
-use Rattle.pdb_fields.specs.declared.Number.{Number}
-use Rattle.pdb_fields.specs.declared.Number.TheVariants.{Bad, Good}
+use Rattle.pdb_fields.specs.declared.Signed.{Signed}
 use Rattle.pdb_records.specs.Names.{CA, O}
 use Rattle.pdb_records.specs.Records.{role_of, serial_of, residue_columns, bits_of, with, segment_of, atom_of, line_kind, of_kind}
 use Rattle.pdb_records.specs.declared.Kind.{Kind}
 use Rattle.pdb_records.specs.declared.Kind.TheVariants.{Atom, Helix, Sheet, Model, Endmdl, Other}
-use Rattle.pdb_records.specs.declared.Field.{Field}
-use Rattle.pdb_records.specs.declared.Field.TheVariants as field
 use Rattle.pdb_records.specs.declared.Record.{Record}
 use Rattle.pdb_records.specs.declared.Record.TheVariants.{Skipped, Short, BadNumber, AnAtom, ASegment}
 use Rattle.pdb_file.specs.Reading.{stops, saw, reading, records, atoms, atoms_of, segments, segments_of}
@@ -26,6 +23,7 @@ use Rattle.pdb_reader.proofs.Passes.{Proper, Every, Kinded}
 use Rattle.pdb_reader.proofs.Small.{thousandths_small, whole_small}
 use Rattle.pdb_reader.proofs.Range.{within_bits_of, bits_small, never_minus_zero}
 use Rattle.lists.proofs.Any.{take_le}
+use Rattle.std.specs.Prelude.{Option, Some, None}
 
 abbrev Sound : Record → Type 0
 Sound Skipped = Unit
@@ -34,27 +32,30 @@ Sound BadNumber = Unit
 Sound (AnAtom a) = Proper a
 Sound (ASegment g) = g.kind ≤ 2
 
-placed : (l : List ℕ) (n : ℕ) → length l ≤ 8 → bits_of (thousandths l) ≡ field.Right n → (Placed n) × (NotMinusZero n)
+placed : (l : List ℕ) (n : ℕ) → length l ≤ 8 → bits_of (thousandths l) ≡ Some n → (Placed n) × (NotMinusZero n)
 placed l n long e = go (thousandths l) refl e
   where
-    go : (t : Number) → thousandths l ≡ t → bits_of t ≡ field.Right n → (Placed n) × (NotMinusZero n)
-    go Bad q e = absurd (let z : ◌≡◌ {A = ℕ} 0 1 = cc in omega arith)
-    go (Good m k) q e =
-        let z : bits m k ≡ n = cc in
-        let low : k ≤ 16384000 = omega (arith, thousandths_small l m k long q) in (
-          subst Placed z (record { inside = within_bits_of m k low; small = bits_small m k }),
-          subst NotMinusZero z (never_minus_zero m k),
+    go : (t : Option Signed) → thousandths l ≡ t → bits_of t ≡ Some n → (Placed n) × (NotMinusZero n)
+    go None q e = absurd (let z : ◌≡◌ {A = ℕ} 0 1 = cc in omega arith)
+    go (Some k) q e =
+        let z : bits k.minus k.size ≡ n = cc in
+        let low : k.size ≤ 16384000 = omega (arith, thousandths_small l k long q) in (
+          subst Placed z (record { inside = within_bits_of k.minus k.size low; small = bits_small k.minus k.size }),
+          subst NotMinusZero z (never_minus_zero k.minus k.size),
         )
 
-serial_low : (l : List ℕ) (n : ℕ) → length l ≤ 5 → serial_of (whole l) ≡ field.Right n → n < 4294967296
+serial_low : (l : List ℕ) (n : ℕ) → length l ≤ 5 → serial_of (whole l) ≡ Some n → n < 4294967296
 serial_low l n long e = go (whole l) refl e
   where
-    go : (t : Number) → whole l ≡ t → serial_of t ≡ field.Right n → n < 4294967296
-    go Bad q e = absurd (let z : ◌≡◌ {A = ℕ} 0 1 = cc in omega arith)
-    go (Good true k) q e = absurd (let z : ◌≡◌ {A = ℕ} 0 1 = cc in omega arith)
-    go (Good false k) q e =
-        let z : k ≡ n = cc in
-        omega (arith, z, whole_small l false k long q)
+    go : (t : Option Signed) → whole l ≡ t → serial_of t ≡ Some n → n < 4294967296
+    go None q e = absurd (let z : ◌≡◌ {A = ℕ} 0 1 = cc in omega arith)
+    go (Some k) q e = sized k.minus e
+      where
+        sized : (m : Bool) → cond m None (Some k.size) ≡ Some n → n < 4294967296
+        sized true e = absurd (let z : ◌≡◌ {A = ℕ} 0 1 = cc in omega arith)
+        sized false e =
+            let z : k.size ≡ n = cc in
+            omega (arith, z, whole_small l k long q)
 
 role_low : (l : List ℕ) → role_of l ≤ 2
 unfolding role_of
@@ -71,16 +72,16 @@ sound_atom l =
     go (ltb (length l) 54) (serial_of (whole (columns 7 11 l))) (residue_columns 22 23 l) (bits_of (thousandths (columns 31 38 l)))
     (bits_of (thousandths (columns 39 46 l))) (bits_of (thousandths (columns 47 54 l))) refl refl refl refl
   where
-    go : (b : Bool) (fs fr fx fy fz : Field) → serial_of (whole (columns 7 11 l)) ≡ fs → bits_of (thousandths (columns 31 38 l)) ≡ fx → bits_of (thousandths (columns 39 46 l)) ≡ fy → bits_of (thousandths (columns 47 54 l)) ≡ fz
+    go : (b : Bool) (fs fr fx fy fz : Option ℕ) → serial_of (whole (columns 7 11 l)) ≡ fs → bits_of (thousandths (columns 31 38 l)) ≡ fx → bits_of (thousandths (columns 39 46 l)) ≡ fy → bits_of (thousandths (columns 47 54 l)) ≡ fz
         → Sound (cond b Short (with fs (λ s. with fr (λ r. with fx (λ x. with fy (λ y. with fz (λ z.
         AnAtom (record { serial = s; role = role_of l; chain = column 22 l; name = r; x = x; y = y; z = z }))))))))
     go true fs fr fx fy fz es ex ey ez = tt
-    go false field.Wrong fr fx fy fz es ex ey ez = tt
-    go false (field.Right s) field.Wrong fx fy fz es ex ey ez = tt
-    go false (field.Right s) (field.Right r) field.Wrong fy fz es ex ey ez = tt
-    go false (field.Right s) (field.Right r) (field.Right x) field.Wrong fz es ex ey ez = tt
-    go false (field.Right s) (field.Right r) (field.Right x) (field.Right y) field.Wrong es ex ey ez = tt
-    go false (field.Right s) (field.Right r) (field.Right x) (field.Right y) (field.Right z) es ex ey ez =
+    go false None fr fx fy fz es ex ey ez = tt
+    go false (Some s) None fx fy fz es ex ey ez = tt
+    go false (Some s) (Some r) None fy fz es ex ey ez = tt
+    go false (Some s) (Some r) (Some x) None fz es ex ey ez = tt
+    go false (Some s) (Some r) (Some x) (Some y) None es ex ey ez = tt
+    go false (Some s) (Some r) (Some x) (Some y) (Some z) es ex ey ez =
         let px = placed (columns 31 38 l) x (take_le 8 (drop 30 l)) ex in
         let py = placed (columns 39 46 l) y (take_le 8 (drop 38 l)) ey in
         let pz = placed (columns 47 54 l) z (take_le 8 (drop 46 l)) ez in
@@ -90,11 +91,11 @@ sound_segment : (k c n c' n' : ℕ) (l : List ℕ) → k ≤ 2 → Sound (segmen
 unfolding segment_of
 sound_segment k c n c' n' l h = go (ltb (length l) 38) (residue_columns c n l) (residue_columns c' n' l)
   where
-    go : (t : Bool) (a b : Field) → Sound (cond t Short (with a (λ s. with b (λ e. ASegment (record { kind = k; start = s; end = e })))))
+    go : (t : Bool) (a b : Option ℕ) → Sound (cond t Short (with a (λ s. with b (λ e. ASegment (record { kind = k; start = s; end = e })))))
     go true a b = tt
-    go false field.Wrong b = tt
-    go false (field.Right s) field.Wrong = tt
-    go false (field.Right s) (field.Right e) = h
+    go false None b = tt
+    go false (Some s) None = tt
+    go false (Some s) (Some e) = h
 
 sound_line : (k : Kind) (l : List ℕ) → Sound (of_kind k l)
 unfolding of_kind

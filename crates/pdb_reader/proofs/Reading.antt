@@ -24,24 +24,23 @@ use Rattle.pdb_records.specs.declared.AtomLine.{AtomLine}
 use Rattle.pdb_file.specs.Reading.{reading, atoms, segments, atoms_of, segments_of}
 use Rattle.pdb_file.specs.Faults.{fault_in}
 use Rattle.pdb_file.specs.declared.Fault.{Fault}
-use Rattle.pdb_file.specs.declared.Fault.TheVariants.{Clean, LineShort, LineWrong, NoResidue}
+use Rattle.pdb_file.specs.declared.Fault.TheVariants.{LineShort, LineWrong, NoResidue}
 use Rattle.pdb_job.specs.Structure.{to_atom, to_segment, chains_of, residues_of, structure_size, structure_job, structure_of, pdb_job}
 use Rattle.pdb_reader.specs.Call.{past_limits, by_fault, read_checks, read_answer, read_by, buffer_after, read_numbers}
 use Rattle.pdb_reader.specs.Causes.{Readable, Accepted, Short, Cause}
 use Rattle.pdb_reader.specs.Causes.Cause.{all_right, at_12, at_13, at_14, at_15, at_16}
 use Rattle.pdb_reader.specs.Says.{NotMinusZero, Sited}
-use Rattle.pdb_reader.specs.declared.Read.{Read}
-use Rattle.pdb_reader.specs.declared.Read.TheVariants.{Written, NoJob}
 use Rattle.pdb_reader.proofs.Answers.{limited}
 use Rattle.pdb_reader.proofs.Passes.{Proper, every_at}
 use Rattle.pdb_reader.proofs.Lines.{atoms_proper}
+use Rattle.std.specs.Prelude.{Result, Ok, Err, Option, Some, None}
 
 -- ---- an answer is told by its numbers: 0 is no refusal's
-pub read_told : (r q : Read) → read_numbers r ≡ read_numbers q → r ≡ q
-read_told (Written n) (Written m) e = ap (λ (l : List ℕ). Written (get_or l 1 0)) e
-read_told (Written n) (NoJob q) e = absurd (zero_not q (ap (λ (l : List ℕ). get_or l 0 0) e))
-read_told (NoJob r) (Written m) e = absurd (zero_not r (sym (ap (λ (l : List ℕ). get_or l 0 0) e)))
-read_told (NoJob r) (NoJob q) e = ap NoJob (told r q e)
+pub read_told : (r q : Result ℕ Refusal) → read_numbers r ≡ read_numbers q → r ≡ q
+read_told (Ok n) (Ok m) e = ap (λ (l : List ℕ). Ok (get_or l 1 0)) e
+read_told (Ok n) (Err q) e = absurd (zero_not q (ap (λ (l : List ℕ). get_or l 0 0) e))
+read_told (Err r) (Ok m) e = absurd (zero_not r (sym (ap (λ (l : List ℕ). get_or l 0 0) e)))
+read_told (Err r) (Err q) e = ap Err (told r q e)
 
 -- ---- each answer has its cause, and one cause one answer
 module _ (s : List ℕ) (room : ℕ) where
@@ -52,44 +51,44 @@ module _ (s : List ℕ) (room : ℕ) where
   unfolding read_answer read_checks
   cause_of = go (fault_in s) refl
     where
-      checks : fault_in s ≡ Clean → (p b : Bool) → past_limits (structure_of s) ≡ p → ltb room size ≡ b
-          → Cause s room (cond p (NoJob PastLimits) (cond b (NoJob (NoJobRoom size)) (Written size)))
+      checks : fault_in s ≡ None → (p b : Bool) → past_limits (structure_of s) ≡ p → ltb room size ≡ b
+          → Cause s room (cond p (Err PastLimits) (cond b (Err (NoJobRoom size)) (Ok size)))
       checks f true b e q = at_15 (record { clean = f; limits = e })
       checks f false true e q = at_16 (record { file = record { clean = f; limits = e; size = refl }; lacks = ltb-true room size q })
       checks f false false e q = all_right (record { file = record { clean = f; limits = e; size = refl }; fits = ltb-false room size q })
 
-      go : (f : Fault) → fault_in s ≡ f → Cause s room (by_fault f (read_checks (structure_of s) room))
-      go Clean e = checks e (past_limits (structure_of s)) (ltb room size) refl refl
-      go (LineShort n) e = at_12 e
-      go (LineWrong n) e = at_13 e
-      go (NoResidue n) e = at_14 e
+      go : (f : Option Fault) → fault_in s ≡ f → Cause s room (by_fault f (read_checks (structure_of s) room))
+      go None e = checks e (past_limits (structure_of s)) (ltb room size) refl refl
+      go (Some (LineShort n)) e = at_12 e
+      go (Some (LineWrong n)) e = at_13 e
+      go (Some (NoResidue n)) e = at_14 e
 
-  pub answer_of : (r : Read) → Cause s room r → read_answer s room ≡ r
+  pub answer_of : (r : Result ℕ Refusal) → Cause s room r → read_answer s room ≡ r
   unfolding read_answer read_checks
-  answer_of r (all_right a) = rw (a.file.clean, a.file.limits, le-ltb room size (omega (arith, a.fits, a.file.size))) (ap Written (sym a.file.size))
+  answer_of r (all_right a) = rw (a.file.clean, a.file.limits, le-ltb room size (omega (arith, a.fits, a.file.size))) (ap Ok (sym a.file.size))
   answer_of r (at_12 e) = rw e
   answer_of r (at_13 e) = rw e
   answer_of r (at_14 e) = rw e
   answer_of r (at_15 p) = rw (p.clean, p.limits)
   answer_of r (at_16 h) =
-      rw (h.file.clean, h.file.limits, lt-ltb room size (omega (arith, h.lacks, h.file.size))) (ap (λ (k : ℕ). NoJob (NoJobRoom k)) (sym h.file.size))
+      rw (h.file.clean, h.file.limits, lt-ltb room size (omega (arith, h.lacks, h.file.size))) (ap (λ (k : ℕ). Err (NoJobRoom k)) (sym h.file.size))
 
   -- 02 §1's numbers, 12 to 16
-  pub cause_number : (q : Refusal) → Cause s room (NoJob q) → (12 ≤ number_of q) × (number_of q ≤ 16)
+  pub cause_number : (q : Refusal) → Cause s room (Err q) → (12 ≤ number_of q) × (number_of q ≤ 16)
   cause_number q (at_12 e) = (omega arith, omega arith)
   cause_number q (at_13 e) = (omega arith, omega arith)
   cause_number q (at_14 e) = (omega arith, omega arith)
   cause_number q (at_15 p) = (omega arith, omega arith)
   cause_number q (at_16 h) = (omega arith, omega arith)
 
-  pub cause_written : (n : ℕ) → Cause s room (Written n) → Accepted s room n
+  pub cause_written : (n : ℕ) → Cause s room (Ok n) → Accepted s room n
   cause_written n (all_right a) = a
 
-  pub cause_16 : (n : ℕ) → Cause s room (NoJob (NoJobRoom n)) → Short s room n
+  pub cause_16 : (n : ℕ) → Cause s room (Err (NoJobRoom n)) → Short s room n
   cause_16 n (at_16 h) = h
 
 -- a cause of 12 to 15 is one in any room
-pub cause_anywhere : (s : List ℕ) (room room₂ : ℕ) (q : Refusal) → Cause s room (NoJob q) → number_of q ≤ 15 → Cause s room₂ (NoJob q)
+pub cause_anywhere : (s : List ℕ) (room room₂ : ℕ) (q : Refusal) → Cause s room (Err q) → number_of q ≤ 15 → Cause s room₂ (Err q)
 cause_anywhere s room room₂ q (at_12 e) l = at_12 e
 cause_anywhere s room room₂ q (at_13 e) l = at_13 e
 cause_anywhere s room room₂ q (at_14 e) l = at_14 e
@@ -109,13 +108,13 @@ job_long s =
     job_size_lem 1 33 atom_bytes wide_atom (chains_of (atoms_of s)) (residues_of (atoms_of s)) (map (to_segment (atoms_of s)) (segments_of s)) (map (to_atom (atoms_of s)) (atoms_of s))
     ∙ rw (length-map (segments_of s) (to_segment (atoms_of s)), length-map (atoms_of s) (to_atom (atoms_of s)))
 
-pub after_refusal : (s out : List ℕ) (q : Refusal) → read_answer s (length out) ≡ NoJob q → buffer_after s out ≡ out
+pub after_refusal : (s out : List ℕ) (q : Refusal) → read_answer s (length out) ≡ Err q → buffer_after s out ≡ out
 unfolding buffer_after
-after_refusal s out q e = ap (λ (x : Read). read_by x s out) e
+after_refusal s out q e = ap (λ (x : Result ℕ Refusal). read_by x s out) e
 
-pub after_job : (s out : List ℕ) (n : ℕ) → read_answer s (length out) ≡ Written n → Accepted s (length out) n → buffer_after s out ≡ pdb_job s ++ drop n out
+pub after_job : (s out : List ℕ) (n : ℕ) → read_answer s (length out) ≡ Ok n → Accepted s (length out) n → buffer_after s out ≡ pdb_job s ++ drop n out
 unfolding buffer_after
-after_job s out n e a = ap (λ (x : Read). read_by x s out) e ∙ put_front out (pdb_job s) n (job_long s ∙ sym a.file.size) a.fits
+after_job s out n e a = ap (λ (x : Result ℕ Refusal). read_by x s out) e ∙ put_front out (pdb_job s) n (job_long s ∙ sym a.file.size) a.fits
 
 -- such a buffer is the job as long as n, and what stood behind it
 module _ (s out : List ℕ) (n : ℕ) (a : Accepted s (length out) n) where

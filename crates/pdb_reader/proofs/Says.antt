@@ -24,14 +24,14 @@ use Rattle.job_writer.proofs.Laws.{wide_segment, wide_atom, length_flat}
 use Rattle.job_writer.proofs.Fine.{Right}
 use Rattle.job_writer.proofs.Readback.{visible_read, records_are, segment_there, atom_there, segment_read, atom_read}
 use Rattle.pdb_records.specs.declared.AtomLine.{AtomLine}
-use Rattle.pdb_file.specs.Faults.{first_atom, last_atom, or_fault, serial_in}
-use Rattle.pdb_file.specs.declared.Found.{Found}
-use Rattle.pdb_file.specs.declared.Found.TheVariants.{Nowhere, Serial}
+use Rattle.pdb_file.specs.Faults.{first_atom, last_atom, serial_in}
+use Rattle.std.specs.Option.{option_or}
 use Rattle.pdb_job.specs.Structure.{Structure, to_atom, to_segment, structure_job}
 use Rattle.pdb_reader.specs.Call.{past_limits}
 use Rattle.pdb_reader.specs.Says.{head_for, narrow, SegmentSaid, AtomSaid, Says}
 use Rattle.pdb_reader.proofs.Answers.{limited}
 use Rattle.pdb_reader.proofs.Passes.{Proper, Every, every_at, atom_right}
+use Rattle.std.specs.Prelude.{Option, Some, None}
 
 -- ---- a serial that is found is an atom's, and fits four bytes
 first_fits : (n : ℕ) (l : List AtomLine) → Every Proper l → serial_in (first_atom n l) < 4294967296
@@ -39,7 +39,7 @@ unfolding first_atom
 first_fits n [] P = omega arith
 first_fits n (a ∷ l) P = go (eqb a.name n) (first_fits n l P.1)
   where
-    go : (b : Bool) → serial_in (first_atom n l) < 4294967296 → serial_in (cond b (Serial a.serial) (first_atom n l)) < 4294967296
+    go : (b : Bool) → serial_in (first_atom n l) < 4294967296 → serial_in (cond b (Some a.serial) (first_atom n l)) < 4294967296
     go true h = P.0.serial
     go false h = h
 
@@ -48,10 +48,10 @@ unfolding last_atom
 last_fits n [] P = omega arith
 last_fits n (a ∷ l) P = go (last_atom n l) (eqb a.name n) (last_fits n l P.1)
   where
-    go : (f : Found) (b : Bool) → serial_in f < 4294967296 → serial_in (or_fault f (cond b (Serial a.serial) Nowhere)) < 4294967296
-    go (Serial s) b h = h
-    go Nowhere true h = P.0.serial
-    go Nowhere false h = omega arith
+    go : (f : Option ℕ) (b : Bool) → serial_in f < 4294967296 → serial_in (option_or f (cond b (Some a.serial) None)) < 4294967296
+    go (Some s) b h = h
+    go None true h = P.0.serial
+    go None false h = omega arith
 
 -- ---- the records of segments
 segments_said : (gs : List JobSegment) → (segments_of (flat segment_bytes gs)).count ≡ length gs

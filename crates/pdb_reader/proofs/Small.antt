@@ -10,8 +10,10 @@ use lib.ListN.{length, take, drop, length-drop}
 use lib.Seq.{drop-drop}
 use borrow.Author.Tests.{eqb-true, leb-true}
 use Rattle.pdb_fields.specs.Numbers.{run, is_blank, is_digit, decimal, lead, blank, fraction, whole, thousandths}
-use Rattle.pdb_fields.specs.declared.Number.TheVariants.{Bad, Good}
+use Rattle.pdb_fields.specs.declared.Signed.{Signed}
+use Rattle.pdb_fields.proofs.Laws.{good}
 use Rattle.lists.proofs.Bools.{and_both}
+use Rattle.std.specs.Prelude.{Some, None}
 
 -- digits in front are no more than the list is long
 run_le : (t : ℕ → Bool) (l : List ℕ) → run t l ≤ length l
@@ -62,35 +64,35 @@ module _ (u : List ℕ) (d : ℕ) (ed : d ≡ run is_digit u) (long : length u �
   same_three : take 3 (drop (d + 1) u) ≡ take 3 (drop 1 (drop d u))
   same_three = ap (take 3) (sym (drop-drop 1 d u))
 
-pub thousandths_small : (l : List ℕ) (m : Bool) (n : ℕ) → length l ≤ 8 → thousandths l ≡ Good m n → n < 10000000
+pub thousandths_small : (l : List ℕ) (n : Signed) → length l ≤ 8 → thousandths l ≡ Some n → n.size < 10000000
 unfolding thousandths
-thousandths_small l m n long e =
+thousandths_small l n long e =
     let s = drop (run is_blank l) l in
     let u = drop (lead 45 s) s in
     let w : length u ≤ 8 = omega (arith, length-drop (run is_blank l) l, length-drop (lead 45 s) s) in
     go u w (eqb (lead 45 s) 1) (eqb (run is_digit u) 0) (fraction (drop (run is_digit u) u)) refl e
   where
     go : (u : List ℕ) → length u ≤ 8 → (k : Bool) (a b : Bool) → fraction (drop (run is_digit u) u) ≡ b
-        → cond a Bad (cond b (Good k (decimal (decimal 0 (take (run is_digit u) u)) (take 3 (drop (run is_digit u + 1) u)))) Bad) ≡ Good m n → n < 10000000
+        → cond a None (cond b (good k (decimal (decimal 0 (take (run is_digit u) u)) (take 3 (drop (run is_digit u + 1) u)))) None) ≡ Some n → n.size < 10000000
     go u w k true b f q = absurd (let z : ◌≡◌ {A = ℕ} 0 1 = cc in omega arith)
     go u w k false false f q = absurd (let z : ◌≡◌ {A = ℕ} 0 1 = cc in omega arith)
     go u w k false true f q =
-        let z : decimal (decimal 0 (take (run is_digit u) u)) (take 3 (drop (run is_digit u + 1) u)) ≡ n = cc in
+        let z : decimal (decimal 0 (take (run is_digit u) u)) (take 3 (drop (run is_digit u + 1) u)) ≡ n.size = cc in
         subst (λ (x : ℕ). x < 10000000) (ap (decimal (decimal 0 (take (run is_digit u) u))) (sym (same_three u (run is_digit u) refl w f)) ∙ z) (below u (run is_digit u) refl w f)
 
-pub whole_small : (l : List ℕ) (m : Bool) (n : ℕ) → length l ≤ 5 → whole l ≡ Good m n → n < 100000
+pub whole_small : (l : List ℕ) (n : Signed) → length l ≤ 5 → whole l ≡ Some n → n.size < 100000
 unfolding whole
-whole_small l m n long e =
+whole_small l n long e =
     let s = drop (run is_blank l) l in
     let u = drop (lead 45 s) s in
     let w : length u ≤ 5 = omega (arith, length-drop (run is_blank l) l, length-drop (lead 45 s) s) in
     go u w (eqb (lead 45 s) 1) (eqb (run is_digit u) 0) (blank (drop (run is_digit u) u)) e
   where
-    go : (u : List ℕ) → length u ≤ 5 → (k a b : Bool) → cond a Bad (cond b (Good k (decimal 0 (take (run is_digit u) u))) Bad) ≡ Good m n → n < 100000
+    go : (u : List ℕ) → length u ≤ 5 → (k a b : Bool) → cond a None (cond b (good k (decimal 0 (take (run is_digit u) u))) None) ≡ Some n → n.size < 100000
     go u w k true b q = absurd (let z : ◌≡◌ {A = ℕ} 0 1 = cc in omega arith)
     go u w k false false q = absurd (let z : ◌≡◌ {A = ℕ} 0 1 = cc in omega arith)
     go u w k false true q =
-        let z : decimal 0 (take (run is_digit u) u) ≡ n = cc in
+        let z : decimal 0 (take (run is_digit u) u) ≡ n.size = cc in
         let d = run is_digit u in
         let a : decimal 0 (take d u) < 1 * 10 ^ d = grows d u 0 1 (omega arith) (omega arith) in
         let b : 10 ^ d ≤ 10 ^ 5 = pow_ten d 5 (omega (arith, run_le is_digit u)) in

@@ -6,23 +6,17 @@ ghost use Rattle.std.specs.Prelude.{◌≡◌, length};
 ghost use Rattle.pdb_file.specs.Reading.{atoms_of};
 ghost use Rattle.pdb_survey.specs.Tables.{Noted};
 ghost use Rattle.pdb_job.specs.Structure.{Structure, structure_of};
-ghost use Rattle.pdb_reader.specs.Call.{past_limits, by_fault, read_checks, read_by, Reads};
+ghost use Rattle.pdb_reader.specs.Call.{past_limits, refusal_of, read_checks, read_by, Reads};
 ghost use Rattle.pdb_job.specs.Counted.{Counted};
 
 use job::Refusal;
 use pdb_file::Fault;
 use pdb_survey::FileCounts;
 
-// The size of the job that was written, or a refusal.
-#[derive(Drop)]
-pub enum Read {
-    Written(usize),
-    NoJob(Refusal),
-}
-
 fn is_past_limits(c: FileCounts, segments: usize) -> bool
     ensures { (x : Structure) → Counted x c segments → result ≡ past_limits x }
 {
+    // Tests in a row: as one `||` it was tried, and the proof did not close.
     if c.more {
         return true;
     }
@@ -45,35 +39,34 @@ fn read_right(
     c: FileCounts,
     segments: usize,
     out: &mut [u8],
-) -> Read
+) -> Result<usize, Refusal>
     requires { (Noted keys.now links.now ends.now marks.now c (atoms_of s.now)) × (Counted (structure_of s.now) c segments) }
     ensures { (result ≡ read_checks (structure_of s.now) (length out.old))
         × (out.new ≡ read_by result s.now out.old) }
 {
     if is_past_limits(c, segments) {
-        return Read::NoJob(Refusal::PastLimits);
+        return Err(Refusal::PastLimits);
     }
     let size = 13 + c.chains + 9 * segments + 33 * c.atoms;
     if out.len() < size {
-        return Read::NoJob(Refusal::NoJobRoom(size));
+        return Err(Refusal::NoJobRoom(size));
     }
     pdb_job::write_job(s, keys, links, ends, marks, c, segments, out);
-    Read::Written(size)
+    Ok(size)
 }
 
-fn by_fault(f: Fault, r: Read) -> Read
-    ensures { result ≡ by_fault f r }
+fn refusal_of(f: Fault) -> Refusal
+    ensures { result ≡ refusal_of f }
 {
     match f {
-        Fault::Clean => r,
-        Fault::LineShort(n) => Read::NoJob(Refusal::ShortLine(n)),
-        Fault::LineWrong(n) => Read::NoJob(Refusal::BadNumber(n)),
-        Fault::NoResidue(n) => Read::NoJob(Refusal::AbsentResidue(n)),
+        Fault::LineShort(n) => Refusal::ShortLine(n),
+        Fault::LineWrong(n) => Refusal::BadNumber(n),
+        Fault::NoResidue(n) => Refusal::AbsentResidue(n),
     }
 }
 
-// Reads a PDB file: a version 1 job at the front of `out`, or a refusal, which leaves `out` as it was. The tables are the reader's own.
-pub fn read_pdb(s: &[u8], out: &mut [u8]) -> Read
+// Reads a PDB file: a version 1 job at the front of `out`, whose size it answers, or a refusal, which leaves `out` as it was. The tables are the reader's own.
+pub fn read_pdb(s: &[u8], out: &mut [u8]) -> Result<usize, Refusal>
     ensures { Reads s.now out.old result out.new }
 {
     let mut keys = [0u64; 16384];
@@ -84,12 +77,12 @@ pub fn read_pdb(s: &[u8], out: &mut [u8]) -> Read
     let c = v.counts;
     let own = v.fault;
     let segments = v.ahead;
-    let f = pdb_faults::find_fault(s, &mut keys, &mut links, c.residues, c.more, own, segments);
+    let fault = pdb_faults::find_fault(s, &mut keys, &mut links, c.residues, c.more, own, segments);
+    if let Some(f) = fault {
+        return Err(refusal_of(f));
+    }
     if c.more {
-        return by_fault(f, Read::NoJob(Refusal::PastLimits));
+        return Err(Refusal::PastLimits);
     }
-    if pdb_file::is_clean(f) {
-        return read_right(s, &keys, &links, &ends, &marks, c, segments, out);
-    }
-    by_fault(f, Read::NoJob(Refusal::PastLimits))
+    read_right(s, &keys, &links, &ends, &marks, c, segments, out)
 }

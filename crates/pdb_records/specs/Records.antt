@@ -1,15 +1,12 @@
 -- What a line of a PDB file says.
-use Rattle.std.specs.Prelude.{ℕ, ◌+◌, ◌*◌, ◌-◌, List, Bool, true, false, cond, length, ltb}
+use Rattle.std.specs.Prelude.{ℕ, ◌+◌, ◌*◌, ◌-◌, List, Bool, true, false, cond, length, ltb, Option, Some, None}
 use Rattle.pdb_lines.specs.Columns.{column, columns, named}
-use Rattle.pdb_fields.specs.declared.Number.{Number}
-use Rattle.pdb_fields.specs.declared.Number.TheVariants.{Bad, Good}
+use Rattle.pdb_fields.specs.declared.Signed.{Signed}
 use Rattle.pdb_fields.specs.Numbers.{whole, thousandths}
 use Rattle.coordinates.specs.Coordinate.{bits}
 use Rattle.pdb_records.specs.Names.{ATOM, HELIX, SHEET, MODEL, ENDMDL, CA, O}
 use Rattle.pdb_records.specs.declared.Kind.{Kind}
 use Rattle.pdb_records.specs.declared.Kind.TheVariants.{Atom, Helix, Sheet, Model, Endmdl, Other}
-use Rattle.pdb_records.specs.declared.Field.{Field}
-use Rattle.pdb_records.specs.declared.Field.TheVariants.{Wrong, Right}
 use Rattle.pdb_records.specs.declared.Record.{Record}
 use Rattle.pdb_records.specs.declared.Record.TheVariants.{Skipped, Short, BadNumber, AnAtom, ASegment}
 
@@ -31,28 +28,27 @@ abbrev pub name_of : ℕ → Bool → ℕ → ℕ → ℕ
 name_of chain minus n icode = (chain * 8589934592 + cond minus (4294967296 - n) (4294967296 + n)) * 256 + icode
 
 -- 'serials have no minus'
-abbrev pub serial_of : Number → Field
-serial_of Bad = Wrong
-serial_of (Good true n) = Wrong
-serial_of (Good false n) = Right n
+abbrev pub serial_of : Option Signed → Option ℕ
+serial_of None = None
+serial_of (Some n) = cond n.minus None (Some n.size)
 
 -- 'A residue is a distinct chain letter, sequence number and insertion code'
-abbrev pub residue_of : ℕ → Number → ℕ → Field
-residue_of chain Bad icode = Wrong
-residue_of chain (Good m n) icode = Right (name_of chain m n icode)
+abbrev pub residue_of : ℕ → Option Signed → ℕ → Option ℕ
+residue_of chain None icode = None
+residue_of chain (Some n) icode = Some (name_of chain n.minus n.size icode)
 
 -- 'divided once by 1000 in f64'
-abbrev pub bits_of : Number → Field
-bits_of Bad = Wrong
-bits_of (Good m n) = Right (bits m n)
+abbrev pub bits_of : Option Signed → Option ℕ
+bits_of None = None
+bits_of (Some n) = Some (bits n.minus n.size)
 
 -- a right field is handed on
-abbrev pub with : Field → (ℕ → Record) → Record
-with Wrong f = BadNumber
-with (Right n) f = f n
+abbrev pub with : Option ℕ → (ℕ → Record) → Record
+with None f = BadNumber
+with (Some n) f = f n
 
 -- the residue whose chain letter is in column c, its number in the four columns from n on, its insertion code in the next
-abbrev pub residue_columns : ℕ → ℕ → List ℕ → Field
+abbrev pub residue_columns : ℕ → ℕ → List ℕ → Option ℕ
 residue_columns c n l = residue_of (column c l) (whole (columns n (n + 3) l)) (column (n + 4) l)
 
 -- ATOM: serial 7-11, name 13-16, chain 22, number 23-26, insertion code 27, x 31-38, y 39-46, z 47-54

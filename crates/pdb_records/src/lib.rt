@@ -5,9 +5,7 @@ ghost use Rattle.std.specs.Prelude.{◌≡◌, ◌+◌, ◌*◌, ◌-◌, ◌<�
 ghost use Rattle.pdb_fields.specs.Numbers.{whole, thousandths};
 ghost use Rattle.pdb_records.specs.Records.{line_kind, role_of, serial_of, residue_of, residue_columns, bits_of, segment_of, atom_of, of_kind};
 
-use pdb_fields::Number;
-
-#[derive(Clone, Copy)]
+#[derive(Clone, Copy, PartialEq, Eq)]
 pub enum Kind {
     Atom,
     Helix,
@@ -15,12 +13,6 @@ pub enum Kind {
     Model,
     Endmdl,
     Other,
-}
-
-#[derive(Drop)]
-pub enum Field {
-    Wrong,
-    Right(u64),
 }
 
 #[derive(Clone, Copy)]
@@ -50,6 +42,7 @@ pub enum Record {
     ASegment(SegmentLine),
 }
 
+#[tactic(auto, unfolding(crate::specs::Records::line_kind))]
 pub fn kind_of(l: &[u8]) -> Kind
     ensures { result ≡ line_kind l.now }
 {
@@ -71,6 +64,7 @@ pub fn kind_of(l: &[u8]) -> Kind
     Kind::Other
 }
 
+#[tactic(auto, unfolding(crate::specs::Records::role_of))]
 fn role_of(l: &[u8]) -> u8
     requires { 16 ≤ length l.now }
     ensures { result ≡ role_of l.now }
@@ -84,82 +78,65 @@ fn role_of(l: &[u8]) -> u8
     0
 }
 
-fn serial_in(l: &[u8]) -> Field
+fn serial_in(l: &[u8]) -> Option<u64>
     requires { length l.now ≤ 8 }
     ensures { result ≡ serial_of (whole l.now) }
 {
-    let n = pdb_fields::whole_in(l);
-    match n {
-        Number::Bad => Field::Wrong,
-        Number::Good { minus, size } => {
-            if minus {
-                return Field::Wrong;
-            }
-            Field::Right(size as u64)
-        }
+    let n = pdb_fields::whole_in(l)?;
+    if n.minus {
+        return None;
     }
+    Some(n.size as u64)
 }
 
-fn coordinate_in(l: &[u8]) -> Field
+fn coordinate_in(l: &[u8]) -> Option<u64>
     requires { length l.now ≤ 8 }
     ensures { result ≡ bits_of (thousandths l.now) }
 {
-    let n = pdb_fields::thousandths_in(l);
-    match n {
-        Number::Bad => Field::Wrong,
-        Number::Good { minus, size } => Field::Right(coordinates::coordinate_bits(minus, size)),
-    }
+    let n = pdb_fields::thousandths_in(l)?;
+    Some(coordinates::coordinate_bits(n.minus, n.size))
 }
 
-fn residue_in(l: &[u8], chain: u8, icode: u8) -> Field
+fn residue_in(l: &[u8], chain: u8, icode: u8) -> Option<u64>
     requires { length l.now ≤ 8 }
     ensures { result ≡ residue_of chain (whole l.now) icode }
 {
-    let n = pdb_fields::whole_in(l);
-    match n {
-        Number::Bad => Field::Wrong,
-        Number::Good { minus, size } => {
-            let c = (chain as u64) * 8589934592;
-            if minus {
-                return Field::Right((c + (4294967296 - (size as u64))) * 256 + (icode as u64));
-            }
-            Field::Right((c + (4294967296 + (size as u64))) * 256 + (icode as u64))
-        }
+    let n = pdb_fields::whole_in(l)?;
+    let c = (chain as u64) * 8589934592;
+    if n.minus {
+        return Some((c + (4294967296 - (n.size as u64))) * 256 + (icode as u64));
     }
+    Some((c + (4294967296 + (n.size as u64))) * 256 + (icode as u64))
 }
 
 // The residue whose chain letter is in column `chain`, counted from 1, its number in the four from `number` on, its insertion code in the next.
-fn residue_at(l: &[u8], chain: usize, number: usize) -> Field
+fn residue_at(l: &[u8], chain: usize, number: usize) -> Option<u64>
     requires { (0 < chain) × (chain ≤ length l.now) × (0 < number) × (number + 4 ≤ length l.now) }
     ensures { result ≡ residue_columns chain number l.now }
 {
     residue_in(&l[number - 1..number + 3], l[chain - 1], l[number + 3])
 }
 
+#[tactic(auto, unfolding(crate::specs::Records::atom_of))]
 fn atom_of(l: &[u8]) -> Record
     ensures { result ≡ atom_of l.now }
 {
     if l.len() < 54 {
         return Record::Short;
     }
-    let s = serial_in(&l[6..11]);
-    let Field::Right(serial) = s else {
+    let Some(serial) = serial_in(&l[6..11]) else {
         return Record::BadNumber;
     };
-    let n = residue_at(l, 22, 23);
-    let Field::Right(name) = n else {
+    let Some(name) = residue_at(l, 22, 23) else {
         return Record::BadNumber;
     };
-    let fx = coordinate_in(&l[30..38]);
-    let Field::Right(x) = fx else {
+    let Some(x) = coordinate_in(&l[30..38]) else {
         return Record::BadNumber;
     };
-    let fy = coordinate_in(&l[38..46]);
-    let Field::Right(y) = fy else {
+    let Some(y) = coordinate_in(&l[38..46]) else {
         return Record::BadNumber;
     };
-    let fz = coordinate_in(&l[46..54]);
-    let Field::Right(z) = fz else {
+    let Some(z) = coordinate_in(&l[46..54]) else {
         return Record::BadNumber;
     };
     Record::AnAtom(AtomLine {
@@ -174,6 +151,7 @@ fn atom_of(l: &[u8]) -> Record
 }
 
 // A HELIX or SHEET line; the columns are those of `residue_at`, for its first residue and for its last.
+#[tactic(auto, unfolding(crate::specs::Records::segment_of))]
 fn segment_of(
     l: &[u8],
     kind: u8,
@@ -188,17 +166,16 @@ fn segment_of(
     if l.len() < 38 {
         return Record::Short;
     }
-    let a = residue_at(l, chain, number);
-    let Field::Right(start) = a else {
+    let Some(start) = residue_at(l, chain, number) else {
         return Record::BadNumber;
     };
-    let b = residue_at(l, chain2, number2);
-    let Field::Right(end) = b else {
+    let Some(end) = residue_at(l, chain2, number2) else {
         return Record::BadNumber;
     };
     Record::ASegment(SegmentLine { kind, start, end })
 }
 
+#[tactic(auto, unfolding(crate::specs::Records::of_kind))]
 pub fn record_of(k: Kind, l: &[u8]) -> Record
     ensures { result ≡ of_kind k l.now }
 {
@@ -206,8 +183,6 @@ pub fn record_of(k: Kind, l: &[u8]) -> Record
         Kind::Atom => atom_of(l),
         Kind::Helix => segment_of(l, 1, 20, 22, 32, 34),
         Kind::Sheet => segment_of(l, 2, 22, 23, 33, 34),
-        Kind::Model => Record::Skipped,
-        Kind::Endmdl => Record::Skipped,
-        Kind::Other => Record::Skipped,
+        _ => Record::Skipped,
     }
 }

@@ -13,11 +13,9 @@ use Rattle.pdb_records.specs.declared.Record.{Record}
 use Rattle.pdb_records.specs.declared.Kind.{Kind}
 use Rattle.pdb_file.specs.Reading.{stops, saw, reading}
 use Rattle.pdb_search.specs.Kinds.{passes, everywhere, taken, chosen, lines_from, lines_of}
-use Rattle.pdb_search.specs.Post.{Onward, Found}
+use Rattle.pdb_search.specs.Post.{Onward}
 use Rattle.pdb_search.specs.declared.What.{What}
 use Rattle.pdb_search.specs.declared.Spot.{Spot}
-use Rattle.pdb_search.specs.declared.Next.{Next}
-use Rattle.pdb_search.specs.declared.Next.TheVariants.{Done, Got}
 
 -- the lines that are searched are those that the reader reads: what they say, line by line, are its records
 pub taken_read : (seen : Bool) (ls : List (List ℕ)) → reading seen ls ≡ map (λ (l : List ℕ). of_kind (line_kind l) l) (taken seen ls)
@@ -91,13 +89,6 @@ module _ (w : What) (s : List ℕ) (at₀ : ℕ) (seen₀ : Bool) (at to next : 
 
       pub search_on : p ≡ false → lines_from w s at₀ seen₀ ≡ lines_from w s next v
       search_on y = q ∙ from_on w s at to next seen h k e (sym eo ∙ z) v ev ∙ rw (sym ep ∙ y)
-
--- what the search answered
-pub found_done : (w : What) (s : List ℕ) (at : ℕ) (seen : Bool) (r : Next) → Found w s at seen r → r ≡ Done → lines_from w s at seen ≡ []
-found_done w s at seen r F e = subst (Found w s at seen) e F
-
-pub found_got : (w : What) (s : List ℕ) (at : ℕ) (seen : Bool) (r : Next) (p : Spot) → Found w s at seen r → r ≡ Got p → Onward w s at seen p
-found_got w s at seen r p F e = subst (Found w s at seen) e F
 
 -- a count of lines: n are behind
 pub record Counting (w : What) (s : List ℕ) (at : ℕ) (seen : Bool) (n : ℕ) : Type 0 where

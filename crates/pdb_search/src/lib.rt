@@ -6,7 +6,7 @@ ghost use Rattle.std.specs.Prelude.{◌≡◌, false, ◌&&◌, cond, ◌≤◌,
 ghost use Rattle.pdb_lines.specs.Columns.{named};
 ghost use Rattle.pdb_records.specs.Records.{atom_of};
 ghost use Rattle.pdb_file.specs.Reading.{stops};
-ghost use Rattle.pdb_search.specs.Kinds.{is_alpha, is_end, has_letters, is_other, is_misspelt, name_in, passes, everywhere, lines_of};
+ghost use Rattle.pdb_search.specs.Kinds.{is_alpha, is_end, has_letters, is_misspelt, name_in, passes, everywhere, lines_of};
 ghost use Rattle.pdb_search.specs.Post.{Found};
 
 use pdb_records::{Kind, Record};
@@ -33,21 +33,12 @@ pub struct Spot {
     pub seen: bool,
 }
 
-#[derive(Drop)]
-pub enum Next {
-    Done,
-    Got(Spot),
-}
-
 fn is_alpha(r: Record) -> bool
     ensures { result ≡ is_alpha r }
 {
     match r {
         Record::AnAtom(a) => a.role == 1,
-        Record::ASegment(_) => false,
-        Record::Skipped => false,
-        Record::Short => false,
-        Record::BadNumber => false,
+        _ => false,
     }
 }
 
@@ -56,14 +47,12 @@ fn name_of(r: Record) -> u64
 {
     match r {
         Record::AnAtom(a) => a.name,
-        Record::ASegment(_) => 0,
-        Record::Skipped => 0,
-        Record::Short => 0,
-        Record::BadNumber => 0,
+        _ => 0,
     }
 }
 
 // The residue that the line of an atom names, in ATOM lines and in HETATM lines alike.
+#[tactic(auto, unfolding(pdb_records::specs::Records::of_kind))]
 pub fn name_in(l: &[u8]) -> u64
     ensures { result ≡ name_in (atom_of l.now) }
 {
@@ -71,61 +60,34 @@ pub fn name_in(l: &[u8]) -> u64
 }
 
 // A C-alpha in a line of the name.
+#[tactic(auto, unfolding(pdb_records::specs::Records::of_kind))]
 fn is_alpha_line(l: &[u8], name: &[u8]) -> bool
     ensures { result ≡ (named name.now 1 l.now && is_alpha (atom_of l.now)) }
 {
-    if !pdb_lines::is_at(l, 0, name) {
-        return false;
-    }
-    is_alpha(pdb_records::record_of(Kind::Atom, l))
+    pdb_lines::is_at(l, 0, name) && is_alpha(pdb_records::record_of(Kind::Atom, l))
 }
 
 fn is_end(l: &[u8]) -> bool
     ensures { result ≡ is_end l.now }
 {
-    if !pdb_lines::is_at(l, 0, b"END") {
-        return false;
-    }
-    if l.len() <= 3 {
-        return true;
-    }
-    l[3] == 32
+    pdb_lines::is_at(l, 0, b"END") && (l.len() <= 3 || l[3] == 32)
 }
 
 fn has_letters(l: &[u8]) -> bool
     ensures { result ≡ has_letters l.now }
 {
-    if pdb_lines::is_at(l, 0, b"ATOM") {
-        return true;
-    }
-    if pdb_lines::is_at(l, 0, b"HELIX") {
-        return true;
-    }
-    pdb_lines::is_at(l, 0, b"SHEET")
-}
-
-fn is_other(k: Kind) -> bool
-    ensures { result ≡ is_other k }
-{
-    match k {
-        Kind::Atom => false,
-        Kind::Helix => false,
-        Kind::Sheet => false,
-        Kind::Model => false,
-        Kind::Endmdl => false,
-        Kind::Other => true,
-    }
+    pdb_lines::is_at(l, 0, b"ATOM")
+        || pdb_lines::is_at(l, 0, b"HELIX")
+        || pdb_lines::is_at(l, 0, b"SHEET")
 }
 
 fn is_misspelt(l: &[u8]) -> bool
     ensures { result ≡ is_misspelt l.now }
 {
-    if !has_letters(l) {
-        return false;
-    }
-    is_other(pdb_records::kind_of(l))
+    has_letters(l) && pdb_records::kind_of(l) == Kind::Other
 }
 
+#[tactic(auto, unfolding(crate::specs::Kinds::passes))]
 fn is_wanted(w: What, l: &[u8]) -> bool
     ensures { result ≡ passes w l.now }
 {
@@ -145,18 +107,13 @@ fn is_over(w: What, seen: bool, k: Kind) -> bool
     ensures { result ≡ cond (everywhere w) false (stops seen k) }
 {
     match w {
-        What::Models => false,
-        What::Ends => false,
-        What::Alphas => pdb_file::stops_at(seen, k),
-        What::Heteros => pdb_file::stops_at(seen, k),
-        What::Misspelt => pdb_file::stops_at(seen, k),
-        What::Items => false,
-        What::Atoms => false,
+        What::Models | What::Ends | What::Items | What::Atoms => false,
+        _ => pdb_file::stops_at(seen, k),
     }
 }
 
 // The next line of a kind from a place of the file on.
-pub fn next_line(s: &[u8], at: usize, seen: bool, w: What) -> Next
+pub fn next_line(s: &[u8], at: usize, seen: bool, w: What) -> Option<Spot>
     requires { at ≤ length s.now }
     ensures { Found w s.now at seen result }
 {
@@ -168,11 +125,11 @@ pub fn next_line(s: &[u8], at: usize, seen: bool, w: What) -> Next
         let next = l.next;
         let k = pdb_records::kind_of(&s[from..to]);
         if is_over(w, model, k) {
-            return Next::Done;
+            return None;
         }
         let v = pdb_file::saw_model(model, k);
         if is_wanted(w, &s[from..to]) {
-            return Next::Got(Spot {
+            return Some(Spot {
                 at: from,
                 to,
                 next,
@@ -182,7 +139,7 @@ pub fn next_line(s: &[u8], at: usize, seen: bool, w: What) -> Next
         from = next;
         model = v;
     }
-    Next::Done
+    None
 }
 
 // How many lines of a kind there are.
@@ -193,8 +150,7 @@ pub fn count_lines(s: &[u8], w: What) -> usize
     let mut seen = false;
     let mut n = 0;
     loop {
-        let next = next_line(s, at, seen, w);
-        let Next::Got(p) = next else {
+        let Some(p) = next_line(s, at, seen, w) else {
             return n;
         };
         n += 1;

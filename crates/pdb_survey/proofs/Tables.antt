@@ -22,64 +22,57 @@ use Rattle.pdb_file.specs.Faults.{first_atom, last_atom, serial_in}
 use Rattle.pdb_survey.specs.Tables.{Residues, Marks}
 use Rattle.pdb_survey.proofs.Atoms.{names_more, first_kept, first_new, last_here, last_kept}
 
-module _ (keys links ends : List ℕ) (n : ℕ) (l : List AtomLine) (a : AtomLine) (R : Residues keys links ends n l) (p : ℕ) (e : p ≡ last (is_key keys a.name) n) where
+module _ (keys links ends : List ℕ) (n : ℕ) (l : List AtomLine) (a : AtomLine) (R : Residues keys links ends n l) where
   -- the residues of the list with this atom at its end
   abbrev more : List AtomLine
   more = l ++ (a ∷ [])
 
-  number : p ≡ numbered (names l) a.name
-  number = e ∙ found_number keys (names l) n a.name R.keyed
+  number : last (is_key keys a.name) n ≡ numbered (names l) a.name
+  number = found_number keys (names l) n a.name R.keyed
 
   old_member : (i : ℕ) → i < n → member (get_or keys i 0) (names l) ≡ true
   old_member i h = keyed_member keys n (names l) R.keyed i h
 
-  module _ (pos : 0 < p) (low : p ≤ n) where
+  module _ (p : ℕ) (e : last (is_key keys a.name) n ≡ suc p) (low : p < n) where
     seen : member a.name (names l) ≡ true
-    seen = number_some (names l) a.name (subst (λ (k : ℕ). 0 < k) number pos)
+    seen = number_some (names l) a.name (omega (arith, number, e))
 
-    -- the residue with this atom's name is p - 1
-    own : (i : ℕ) → i < n → a.name ≡ get_or keys i 0 → i + 1 ≡ p
-    own i h q = sym (keyed_number keys n (names l) R.keyed i h) ∙ ap (numbered (names l)) (sym q) ∙ sym number
+    -- the residue with this atom's name is p
+    own : (i : ℕ) → i < n → a.name ≡ get_or keys i 0 → i ≡ p
+    own i h q = omega (arith, e, sym (keyed_number keys n (names l) R.keyed i h) ∙ ap (numbered (names l)) (sym q) ∙ sym number)
 
-    other : (i : ℕ) → i < n → (i + 1 ≡ p → ⊥) → a.name ≡ get_or keys i 0 → ⊥
+    other : (i : ℕ) → i < n → (i ≡ p → ⊥) → a.name ≡ get_or keys i 0 → ⊥
     other i h d q = d (own i h q)
 
-    named : a.name ≡ get_or keys (p - 1) 0
+    named : a.name ≡ get_or keys p 0
     unfolding is_key
-    named =
-        let z : last (is_key keys a.name) n ≡ suc (p - 1) = omega (arith, e) in
-        sym (eqb-true (get_or keys (p - 1) 0) a.name (taken z))
-      where
-        taken : last (is_key keys a.name) n ≡ suc (p - 1) → is_key keys a.name (p - 1) ≡ true
-        taken z = last_taken (is_key keys a.name) n (p - 1) z
+    named = sym (eqb-true (get_or keys p 0) a.name (last_taken (is_key keys a.name) n p e))
 
-    at_last : (i : ℕ) → i < n → (b : Bool) → eqb (i + 1) p ≡ b → get_or (set ends (16383 + p) a.serial) (16384 + i) 0 ≡ serial_in (last_atom (get_or keys i 0) more)
+    at_last : (i : ℕ) → i < n → (b : Bool) → eqb i p ≡ b → get_or (set ends (16384 + p) a.serial) (16384 + i) 0 ≡ serial_in (last_atom (get_or keys i 0) more)
     at_last i h true q =
-        let z : i + 1 ≡ p = eqb-true (i + 1) p q in
-        let w : 16384 + i ≡ 16383 + p = omega arith in
-        let v : i ≡ p - 1 = omega arith in
-        ap (λ (k : ℕ). get_or (set ends (16383 + p) a.serial) k 0) w
-        ∙ get_or-set_same ends (16383 + p) a.serial 0 (omega (arith, R.size, R.index.few))
+        let v : i ≡ p = eqb-true i p q in
+        ap (λ (k : ℕ). get_or (set ends (16384 + p) a.serial) (16384 + k) 0) v
+        ∙ get_or-set_same ends (16384 + p) a.serial 0 (omega (arith, R.size, R.index.few))
         ∙ sym (ap serial_in (ap (λ (k : ℕ). last_atom k more) (ap (λ (k : ℕ). get_or keys k 0) v ∙ sym named) ∙ last_here l a))
     at_last i h false q =
-        let d = eqb-false (i + 1) p q in
-        get_or-set_other ends (16383 + p) (16384 + i) a.serial 0 (λ z. d (omega arith))
+        let d = eqb-false i p q in
+        get_or-set_other ends (16384 + p) (16384 + i) a.serial 0 (λ z. d (omega arith))
         ∙ R.last i h ∙ ap serial_in (sym (last_kept l a (get_or keys i 0) (other i h d)))
 
-    pub atom_seen : Residues keys links (set ends (16383 + p) a.serial) n more
+    pub atom_seen : Residues keys links (set ends (16384 + p) a.serial) n more
     atom_seen = record {
       index = R.index;
       keyed = subst (Keyed keys n) (sym (names_more l a)) (keyed_seen keys n (names l) a.name R.keyed seen);
-      size = length-set ends (16383 + p) a.serial ∙ R.size;
+      size = length-set ends (16384 + p) a.serial ∙ R.size;
       first = λ i h.
-          get_or-set_other ends (16383 + p) i a.serial 0 (λ z. omega (arith, R.index.few)) ∙ R.first i h
+          get_or-set_other ends (16384 + p) i a.serial 0 (λ z. omega (arith, R.index.few)) ∙ R.first i h
           ∙ ap serial_in (sym (first_kept l a (get_or keys i 0) (old_member i h)));
-      last = λ i h. at_last i h (eqb (i + 1) p) refl;
+      last = λ i h. at_last i h (eqb i p) refl;
     }
 
-  module _ (none : p ≤ 0) where
+  module _ (none : last (is_key keys a.name) n ≡ 0) where
     new : member a.name (names l) ≡ false
-    new = number_none (names l) a.name (sym number ∙ omega arith)
+    new = number_none (names l) a.name (sym number ∙ none)
 
     pub atom_full : n ≡ 16384 → 16384 < length (order (names more))
     atom_full f = rw (names_more l a) (omega (arith, count_new (names l) a.name new, R.keyed.count))

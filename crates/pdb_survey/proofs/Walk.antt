@@ -14,11 +14,12 @@ use Rattle.appearance.proofs.Numbers.{keyed_member}
 use Rattle.pdb_records.specs.declared.AtomLine.{AtomLine}
 use Rattle.pdb_records.specs.declared.Record.{Record}
 use Rattle.pdb_records.specs.declared.Record.TheVariants.{Skipped, Short, BadNumber, AnAtom, ASegment}
-use Rattle.pdb_file.specs.Reading.{rest, records, atoms, atoms_of, atoms_in, segments_in, names, letters}
-use Rattle.pdb_file.specs.Steps.{Onward}
-use Rattle.pdb_file.specs.Faults.{is_clean, first_fault}
+use Rattle.pdb_file.specs.Reading.{records, atoms, atoms_of, atoms_in, segments_in, names, letters}
+use Rattle.pdb_file.specs.Steps.{left, Onward, Begins}
+use Rattle.pdb_file.specs.declared.walk.Walk.{Walk}
+use Rattle.std.specs.Prelude.{Option, Some, None, is_none}
+use Rattle.std.specs.Option.{option_or}
 use Rattle.pdb_file.specs.declared.Fault.{Fault}
-use Rattle.pdb_file.specs.declared.Fault.TheVariants.{Clean, LineShort, LineWrong, NoResidue}
 use Rattle.pdb_survey.specs.Lines.{own_fault, own_faults, ahead, segments_counted}
 use Rattle.pdb_survey.specs.Tables.{Residues, Marks, Whole, Noted, Surveyed}
 use Rattle.pdb_survey.specs.declared.FileCounts.{FileCounts}
@@ -60,11 +61,11 @@ module _ (keys links ends marks : List ℕ) (c : FileCounts) (l : List AtomLine)
 
   module _ (a : AtomLine) where
     -- a new residue that has no place any more; the marks are of no use then
-    pub noted_full : c.more ≡ false → (p : ℕ) → p ≡ last (is_key keys a.name) c.residues → p ≤ 0 → c.residues ≡ 16384 → (marks' : List ℕ)
+    pub noted_full : c.more ≡ false → last (is_key keys a.name) c.residues ≡ 0 → c.residues ≡ 16384 → (marks' : List ℕ)
         → Noted keys links ends marks' (record { atoms = c.atoms; residues = c.residues; chains = c.chains; more = true }) (l ++ (a ∷ []))
-    noted_full e p ep z f marks' = record {
+    noted_full e z f marks' = record {
       known = record { index = N.known.index; among = among_more (a ∷ []); all = λ q. clash refl q };
-      past = λ _. atom_full keys links ends c.residues l a (N.whole e).residues p ep z f;
+      past = λ _. atom_full keys links ends c.residues l a (N.whole e).residues z f;
       whole = λ q. clash refl q;
     }
 
@@ -82,99 +83,93 @@ module _ (keys links ends marks : List ℕ) (c : FileCounts) (l : List AtomLine)
         })
 
 -- ---- the loop: the atoms `done` are in the tables, what is left is to come
-pub record Surveying (s keys links ends marks : List ℕ) (at : ℕ) (seen : Bool) (line : ℕ) (fault : Fault) (n : ℕ) (c : FileCounts) : Type 0 where
-  pub inside : at ≤ length s
+pub record Surveying (s keys links ends marks : List ℕ) (w : Walk) (line : ℕ) (fault : Option Fault) (n : ℕ) (c : FileCounts) : Type 0 where
+  pub text : w.text.now ≡ s
   pub done : List AtomLine
-  pub split : atoms_of s ≡ done ++ atoms (rest s at seen)
+  pub split : atoms_of s ≡ done ++ atoms (left w)
   pub noted : Noted keys links ends marks c done
   pub few_chains_lem : c.chains ≤ c.atoms
-  pub slow_atoms : c.atoms ≤ at
-  pub slow_line : line ≤ at + 1
-  pub slow_ahead : n ≤ at
-  pub faults : own_faults 1 (records s) ≡ first_fault fault (own_faults line (rest s at seen))
-  pub aheads : ahead (records s) ≡ n + cond (is_clean fault) (ahead (rest s at seen)) 0
+  pub slow_atoms : c.atoms ≤ w.at
+  pub slow_line : line ≤ w.at + 1
+  pub slow_ahead : n ≤ w.at
+  pub faults : own_faults 1 (records s) ≡ option_or fault (own_faults line (left w))
+  pub aheads : ahead (records s) ≡ n + cond (is_none fault) (ahead (left w)) 0
 
 abbrev nothing : FileCounts
 nothing = record { atoms = 0; residues = 0; chains = 0; more = false }
 
-pub surveying_start : (s keys links ends marks : List ℕ) → Noted keys links ends marks nothing [] → Surveying s keys links ends marks 0 false 1 Clean 0 nothing
-surveying_start s keys links ends marks N = record {
-  inside = omega arith;
+pub surveying_start : (s keys links ends marks : List ℕ) (w : Walk) → Begins s w → Noted keys links ends marks nothing [] → Surveying s keys links ends marks w 1 None 0 nothing
+surveying_start s keys links ends marks w b N = record {
+  text = b.text;
   done = [];
-  split = refl;
+  split = ap atoms (sym b.all);
   noted = N;
   few_chains_lem = omega arith;
   slow_atoms = omega arith;
   slow_line = omega arith;
   slow_ahead = omega arith;
-  faults = refl;
-  aheads = omega arith;
+  faults = ap (own_faults 1) (sym b.all);
+  aheads = omega (arith, ap ahead (sym b.all));
 }
 
-or_clean : (f : Fault) → first_fault f Clean ≡ f
-or_clean Clean = refl
-or_clean (LineShort n) = refl
-or_clean (LineWrong n) = refl
-or_clean (NoResidue n) = refl
+or_clean : (f : Option Fault) → option_or f None ≡ f
+or_clean None = refl
+or_clean (Some f) = refl
 
-first_assoc : (f g h : Fault) → first_fault (first_fault f g) h ≡ first_fault f (first_fault g h)
-first_assoc Clean g h = refl
-first_assoc (LineShort n) g h = refl
-first_assoc (LineWrong n) g h = refl
-first_assoc (NoResidue n) g h = refl
+first_assoc : (f g h : Option Fault) → option_or (option_or f g) h ≡ option_or f (option_or g h)
+first_assoc None g h = refl
+first_assoc (Some f) g h = refl
 
-own_clean : (n : ℕ) (r : Record) → is_clean (own_fault n r) ≡ is_clean (own_fault 1 r)
+own_clean : (n : ℕ) (r : Record) → is_none (own_fault n r) ≡ is_none (own_fault 1 r)
 own_clean n Skipped = refl
 own_clean n Short = refl
 own_clean n BadNumber = refl
 own_clean n (AnAtom a) = refl
 own_clean n (ASegment g) = refl
 
-module _ (s keys links ends marks : List ℕ) (at : ℕ) (seen : Bool) (line : ℕ) (fault : Fault) (n : ℕ) (c : FileCounts)
-    (W : Surveying s keys links ends marks at seen line fault n c) where
-  pub surveying_over : rest s at seen ≡ [] → Surveyed s keys links ends marks (record { counts = c; fault = fault; ahead = n })
+module _ (s keys links ends marks : List ℕ) (w : Walk) (line : ℕ) (fault : Option Fault) (n : ℕ) (c : FileCounts)
+    (W : Surveying s keys links ends marks w line fault n c) where
+  pub surveying_over : left w ≡ [] → Surveyed s keys links ends marks (record { counts = c; fault = fault; ahead = n })
   unfolding own_faults ahead atoms
   surveying_over e = record {
     noted = subst (Noted keys links ends marks c) (sym (W.split ∙ ap (λ (t : List Record). W.done ++ atoms t) e ∙ append-nil W.done)) W.noted;
-    fault = sym (W.faults ∙ ap (λ (t : List Record). first_fault fault (own_faults line t)) e ∙ or_clean fault);
-    ahead_is = sym (W.aheads ∙ ap (λ (t : List Record). n + cond (is_clean fault) (ahead t) 0) e ∙ none (is_clean fault));
+    fault = sym (W.faults ∙ ap (λ (t : List Record). option_or fault (own_faults line t)) e ∙ or_clean fault);
+    ahead_is = sym (W.aheads ∙ ap (λ (t : List Record). n + cond (is_none fault) (ahead t) 0) e ∙ none (is_none fault));
   }
     where
       none : (b : Bool) → n + cond b 0 0 ≡ n
       none true = omega arith
       none false = omega arith
 
-  module _ (r : Record) (p : ℕ) (v : Bool) (o : Onward s at seen r p v) (f : Fault) (k : ℕ) (keys' links' ends' marks' : List ℕ) (d : FileCounts)
+  module _ (r : Record) (w' : Walk) (o : Onward w r w') (f : Option Fault) (k : ℕ) (keys' links' ends' marks' : List ℕ) (d : FileCounts)
       (T : Noted keys' links' ends' marks' d (W.done ++ atoms_in r)) where
-    next : atoms_of s ≡ (W.done ++ atoms_in r) ++ atoms (rest s p v)
+    next : atoms_of s ≡ (W.done ++ atoms_in r) ++ atoms (left w')
     unfolding atoms
-    next = W.split ∙ ap (λ (t : List Record). W.done ++ atoms t) o.is ∙ sym (append_assoc W.done (atoms_in r) (atoms (rest s p v)))
+    next = W.split ∙ ap (λ (t : List Record). W.done ++ atoms t) o.is ∙ sym (append_assoc W.done (atoms_in r) (atoms (left w')))
 
-    ahead_on : (b : Bool) (w : Bool) → is_clean fault ≡ b → f ≡ first_fault fault (own_fault line r) → is_clean (own_fault line r) ≡ w → k ≡ segments_counted f r
-        → n + cond (is_clean fault) (ahead (rest s at seen)) 0 ≡ n + k + cond (is_clean f) (ahead (rest s p v)) 0
+    ahead_on : (b : Bool) (z : Bool) → is_none fault ≡ b → f ≡ option_or fault (own_fault line r) → is_none (own_fault line r) ≡ z → k ≡ segments_counted f r
+        → n + cond (is_none fault) (ahead (left w)) 0 ≡ n + k + cond (is_none f) (ahead (left w')) 0
     unfolding ahead
-    ahead_on b w eb ef ew ek = rw (o.is, own_clean⁻ w ew, ek, clean_of fault (own_fault line r) f ef, eb, ew) (go b w)
+    ahead_on b z eb ef ez ek = rw (o.is, own_clean⁻ z ez, ek, clean_of fault (own_fault line r) f ef, eb, ez) (go b z)
       where
-        own_clean⁻ : (w : Bool) → is_clean (own_fault line r) ≡ w → is_clean (own_fault 1 r) ≡ w
-        own_clean⁻ w e = sym (own_clean line r) ∙ e
+        own_clean⁻ : (z : Bool) → is_none (own_fault line r) ≡ z → is_none (own_fault 1 r) ≡ z
+        own_clean⁻ z e = sym (own_clean line r) ∙ e
 
-        clean_of : (x y z : Fault) → z ≡ first_fault x y → is_clean z ≡ cond (is_clean x) (is_clean y) false
-        clean_of Clean y z e = ap is_clean e
-        clean_of (LineShort i) y z e = ap is_clean e
-        clean_of (LineWrong i) y z e = ap is_clean e
-        clean_of (NoResidue i) y z e = ap is_clean e
+        clean_of : (x y z : Option Fault) → z ≡ option_or x y → is_none z ≡ cond (is_none x) (is_none y) false
+        clean_of None y z e = ap is_none e
+        clean_of (Some x) y z e = ap is_none e
 
-        go : (b w : Bool) → n + cond b (cond w (length (segments_in r) + ahead (rest s p v)) 0) 0
-            ≡ n + cond (cond b w false) (length (segments_in r)) 0 + cond (cond b w false) (ahead (rest s p v)) 0
+        go : (b z : Bool) → n + cond b (cond z (length (segments_in r) + ahead (left w')) 0) 0
+            ≡ n + cond (cond b z false) (length (segments_in r)) 0 + cond (cond b z false) (ahead (left w')) 0
         go true true = omega arith
         go true false = omega arith
-        go false w = omega arith
+        go false z = omega arith
 
-    pub surveying_more : f ≡ first_fault fault (own_fault line r) → k ≡ segments_counted f r → k ≤ 1 → d.chains ≤ d.atoms → d.atoms ≤ c.atoms + 1
-        → Surveying s keys' links' ends' marks' p v (line + 1) f (n + k) d
+    pub surveying_more : f ≡ option_or fault (own_fault line r) → k ≡ segments_counted f r → k ≤ 1 → d.chains ≤ d.atoms → d.atoms ≤ c.atoms + 1
+        → Surveying s keys' links' ends' marks' w' (line + 1) f (n + k) d
     unfolding own_faults
     surveying_more ef ek lk ch at' = record {
-      inside = o.within;
+      text = o.text ∙ W.text;
       done = W.done ++ atoms_in r;
       split = next;
       noted = T;
@@ -183,7 +178,7 @@ module _ (s keys links ends marks : List ℕ) (at : ℕ) (seen : Bool) (line : �
       slow_line = omega (arith, o.more, W.slow_line);
       slow_ahead = omega (arith, o.more, W.slow_ahead);
       faults =
-          W.faults ∙ ap (λ (t : List Record). first_fault fault (own_faults line t)) o.is
-          ∙ sym (ap (λ (g : Fault). first_fault g (own_faults (line + 1) (rest s p v))) ef ∙ first_assoc fault (own_fault line r) (own_faults (line + 1) (rest s p v)));
-      aheads = W.aheads ∙ ahead_on (is_clean fault) (is_clean (own_fault line r)) refl ef refl ek;
+          W.faults ∙ ap (λ (t : List Record). option_or fault (own_faults line t)) o.is
+          ∙ sym (ap (λ (g : Option Fault). option_or g (own_faults (line + 1) (left w'))) ef ∙ first_assoc fault (own_fault line r) (own_faults (line + 1) (left w')));
+      aheads = W.aheads ∙ ahead_on (is_none fault) (is_none (own_fault line r)) refl ef refl ek;
     }

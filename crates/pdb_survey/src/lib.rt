@@ -4,11 +4,10 @@
 ghost use Rattle.std.specs.Prelude.{◌≡◌, List, [], ◌∷◌, ◌++◌, ℕ, ◌+◌, ◌<◌, ◌≤◌, false};
 ghost use Rattle.appearance.specs.Index.{Index};
 ghost use Rattle.pdb_file.specs.Reading.{atoms_in};
-ghost use Rattle.pdb_file.specs.Faults.{first_fault};
 ghost use Rattle.pdb_survey.specs.Lines.{own_fault, segments_counted};
 ghost use Rattle.pdb_survey.specs.Tables.{Marks, Noted, Surveyed};
 
-use pdb_file::{Fault, Next};
+use pdb_file::Fault;
 use pdb_records::{AtomLine, Record};
 
 // How many atoms, residues and chains. `more`: a residue came that the tables have no place for, and nothing is counted from its first atom on.
@@ -24,7 +23,7 @@ pub struct FileCounts {
 #[derive(Drop)]
 pub struct Overview {
     pub counts: FileCounts,
-    pub fault: Fault,
+    pub fault: Option<Fault>,
     pub ahead: usize,
 }
 
@@ -60,10 +59,10 @@ fn take_in(
     }
     let n = c.residues;
     let atoms = c.atoms + 1;
-    let p = appearance::find(keys, links, n, a.name);
+    let found = appearance::find(keys, links, n, a.name);
     let chains = mark(marks, a.chain, c.chains);
-    if 0 < p {
-        ends[16383 + p] = a.serial;
+    if let Some(i) = found {
+        ends[16384 + i] = a.serial;
         return FileCounts {
             atoms,
             residues: n,
@@ -72,12 +71,7 @@ fn take_in(
         };
     }
     if n == 16384 {
-        return FileCounts {
-            atoms: c.atoms,
-            residues: n,
-            chains: c.chains,
-            more: true,
-        };
+        return FileCounts { more: true, ..c };
     }
     appearance::enter(keys, links, n, a.name);
     ends[n] = a.serial;
@@ -106,51 +100,27 @@ fn note(
 {
     match r {
         Record::AnAtom(a) => take_in(keys, links, ends, marks, c, a),
-        Record::ASegment(_) => c,
-        Record::Skipped => c,
-        Record::Short => c,
-        Record::BadNumber => c,
+        _ => c,
     }
 }
 
-fn own_fault(line: usize, r: Record) -> Fault
+fn own_fault(line: usize, r: Record) -> Option<Fault>
     ensures { result ≡ own_fault line r }
 {
     match r {
-        Record::Short => Fault::LineShort(line),
-        Record::BadNumber => Fault::LineWrong(line),
-        Record::Skipped => Fault::Clean,
-        Record::AnAtom(_) => Fault::Clean,
-        Record::ASegment(_) => Fault::Clean,
-    }
-}
-
-fn first_of(f: Fault, g: Fault) -> Fault
-    ensures { result ≡ first_fault f g }
-{
-    match f {
-        Fault::Clean => g,
-        Fault::LineShort(n) => Fault::LineShort(n),
-        Fault::LineWrong(n) => Fault::LineWrong(n),
-        Fault::NoResidue(n) => Fault::NoResidue(n),
+        Record::Short => Some(Fault::LineShort(line)),
+        Record::BadNumber => Some(Fault::LineWrong(line)),
+        _ => None,
     }
 }
 
 // 1 for a segment while no line is at fault.
-pub fn count_segment(f: Fault, r: Record) -> usize
+pub fn count_segment(f: Option<Fault>, r: Record) -> usize
     ensures { (result ≡ segments_counted f r) × (result ≤ 1) }
 {
-    match f {
-        Fault::LineShort(_) => 0,
-        Fault::LineWrong(_) => 0,
-        Fault::NoResidue(_) => 0,
-        Fault::Clean => match r {
-            Record::ASegment(_) => 1,
-            Record::AnAtom(_) => 0,
-            Record::Skipped => 0,
-            Record::Short => 0,
-            Record::BadNumber => 0,
-        },
+    match (f, r) {
+        (None, Record::ASegment(_)) => 1,
+        _ => 0,
     }
 }
 
@@ -165,10 +135,8 @@ pub fn survey(
     requires { Noted keys.old links.old ends.old marks.old (record { atoms = 0; residues = 0; chains = 0; more = false }) [] }
     ensures { Surveyed s.now keys.new links.new ends.new marks.new result }
 {
-    let mut at = 0;
-    let mut seen = false;
     let mut line = 1;
-    let mut fault = Fault::Clean;
+    let mut fault = None;
     let mut ahead = 0;
     let mut counts = FileCounts {
         atoms: 0,
@@ -176,24 +144,15 @@ pub fn survey(
         chains: 0,
         more: false,
     };
-    loop {
-        let n = pdb_file::step(s, at, seen);
-        match n {
-            Next::Done => {
-                return Overview {
-                    counts,
-                    fault,
-                    ahead,
-                };
-            }
-            Next::Got(r, a, v) => {
-                fault = first_of(fault, own_fault(line, r));
-                ahead += count_segment(fault, r);
-                counts = note(keys, links, ends, marks, counts, r);
-                line += 1;
-                at = a;
-                seen = v;
-            }
-        }
+    for r in pdb_file::records(s) {
+        fault = fault.or(own_fault(line, r));
+        ahead += count_segment(fault, r);
+        counts = note(keys, links, ends, marks, counts, r);
+        line += 1;
+    }
+    Overview {
+        counts,
+        fault,
+        ahead,
     }
 }

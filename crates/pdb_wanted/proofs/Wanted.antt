@@ -15,9 +15,11 @@ use Rattle.lists.proofs.Searches.{last_le, last_taken}
 use Rattle.appearance.proofs.Laws.{member_append}
 use Rattle.pdb_records.specs.declared.AtomLine.{AtomLine}
 use Rattle.pdb_records.specs.declared.Record.{Record}
-use Rattle.pdb_file.specs.Reading.{rest, atoms, atoms_in, atoms_of, names}
-use Rattle.pdb_file.specs.Faults.{first_atom, is_found}
-use Rattle.pdb_file.specs.Steps.{Onward}
+use Rattle.pdb_file.specs.Reading.{atoms, atoms_in, atoms_of, names}
+use Rattle.pdb_file.specs.Faults.{first_atom}
+use Rattle.std.specs.Prelude.{is_some}
+use Rattle.pdb_file.specs.Steps.{left, Onward, Begins}
+use Rattle.pdb_file.specs.declared.walk.Walk.{Walk}
 use Rattle.pdb_survey.proofs.Atoms.{found_member, names_more}
 use Rattle.pdb_survey.specs.Tables.{Known}
 use Rattle.pdb_wanted.specs.Wanted.{Wanted}
@@ -55,41 +57,41 @@ module _ (l : List ℕ) (y : ℕ) where
   unfolding member
   member_other x d = member_append x l (y ∷ []) ∙ ap (λ (b : Bool). member x l || (b || false)) (ne_eqb x y d) ∙ or-false (member x l)
 
-module _ (keys links bits : List ℕ) (n : ℕ) (l : List ℕ) (W : Wanted keys links bits n l) (y p : ℕ) (e : p ≡ last (is_key keys y) n) where
+module _ (keys links bits : List ℕ) (n : ℕ) (l : List ℕ) (W : Wanted keys links bits n l) (y : ℕ) where
   key_at : (x i : ℕ) → last (is_key keys x) n ≡ suc i → get_or keys i 0 ≡ x
   unfolding is_key
   key_at x i q = eqb-true (get_or keys i 0) x (last_taken (is_key keys x) n i q)
 
   -- it is wanted
-  pub noted_there : 0 < p → p ≤ n → Wanted keys links (set bits (p - 1) 1) n (l ++ (y ∷ []))
-  noted_there h low = record {
+  pub noted_there : (p : ℕ) → last (is_key keys y) n ≡ suc p → p < n → Wanted keys links (set bits p 1) n (l ++ (y ∷ []))
+  noted_there p e low = record {
     index = W.index;
-    size = length-set bits (p - 1) 1 ∙ W.size;
+    size = length-set bits p 1 ∙ W.size;
     known = λ x i q. at x i q (eqb x y) refl;
   }
     where
-      at : (x i : ℕ) → last (is_key keys x) n ≡ suc i → (b : Bool) → eqb x y ≡ b → get_or (set bits (p - 1) 1) i 0 ≡ cond (member x (l ++ (y ∷ []))) 1 0
+      at : (x i : ℕ) → last (is_key keys x) n ≡ suc i → (b : Bool) → eqb x y ≡ b → get_or (set bits p 1) i 0 ≡ cond (member x (l ++ (y ∷ []))) 1 0
       at x i q true z =
           let k : x ≡ y = eqb-true x y z in
-          let w : p ≡ suc i = e ∙ ap (λ (t : ℕ). last (is_key keys t) n) (sym k) ∙ q in
-          let v : i ≡ p - 1 = omega arith in
-          ap (λ (t : ℕ). get_or (set bits (p - 1) 1) t 0) v ∙ get_or-set_same bits (p - 1) 1 0 (omega (arith, W.size, W.index.few))
+          let w : suc p ≡ suc i = sym e ∙ ap (λ (t : ℕ). last (is_key keys t) n) (sym k) ∙ q in
+          let v : i ≡ p = omega arith in
+          ap (λ (t : ℕ). get_or (set bits p 1) t 0) v ∙ get_or-set_same bits p 1 0 (omega (arith, W.size, W.index.few))
           ∙ sym (ap (λ (t : ℕ). cond (member t (l ++ (y ∷ []))) 1 0) k ∙ ap (λ (b : Bool). cond b 1 0) (member_here l y))
       at x i q false z =
           let d = eqb-false x y z in
-          get_or-set_other bits (p - 1) i 1 0 (λ v. let w : p ≡ suc i = omega arith in d (sym (key_at x i q) ∙ key_at y i (sym e ∙ w)))
+          get_or-set_other bits p i 1 0 (λ v. let w : suc p ≡ suc i = omega arith in d (sym (key_at x i q) ∙ key_at y i (e ∙ w)))
           ∙ W.known x i q ∙ ap (λ (b : Bool). cond b 1 0) (sym (member_other l y x d))
 
   -- it is not
-  pub noted_not : p ≤ 0 → Wanted keys links bits n (l ++ (y ∷ []))
-  noted_not h = record {
+  pub noted_not : last (is_key keys y) n ≡ 0 → Wanted keys links bits n (l ++ (y ∷ []))
+  noted_not e = record {
     index = W.index;
     size = W.size;
     known = λ x i q. W.known x i q ∙ ap (λ (b : Bool). cond b 1 0) (sym (member_other l y x (differs x i q)));
   }
     where
       differs : (x i : ℕ) → last (is_key keys x) n ≡ suc i → x ≡ y → ⊥
-      differs x i q k = let w : p ≡ suc i = e ∙ ap (λ (t : ℕ). last (is_key keys t) n) (sym k) ∙ q in omega arith
+      differs x i q k = let w : 0 ≡ suc i = sym e ∙ ap (λ (t : ℕ). last (is_key keys t) n) (sym k) ∙ q in omega arith
 
 -- what a line gives
 module _ (keys links bits : List ℕ) (n : ℕ) (l m : List AtomLine) where
@@ -100,38 +102,35 @@ module _ (keys links bits : List ℕ) (n : ℕ) (l m : List AtomLine) where
   noted_atom a e W = subst (Wanted keys links bits n) (sym (ap (λ (t : List AtomLine). names (l ++ t)) e ∙ names_more l a)) W
 
 -- ---- a residue by its bit
-pub bit_tells : (keys links bits : List ℕ) (n : ℕ) (l : List AtomLine) → Wanted keys links bits n (names l) → (x p : ℕ) → p ≡ last (is_key keys x) n → 0 < p
-    → eqb (get_or bits (p - 1) 0) 1 ≡ is_found (first_atom x l)
-bit_tells keys links bits n l W x p e h =
-    let z : last (is_key keys x) n ≡ suc (p - 1) = omega (arith, e) in
-    ap (λ (b : ℕ). eqb b 1) (W.known x (p - 1) z) ∙ bit (member x (names l)) ∙ sym (found_member x l)
+pub bit_tells : (keys links bits : List ℕ) (n : ℕ) (l : List AtomLine) → Wanted keys links bits n (names l) → (x i : ℕ) → last (is_key keys x) n ≡ suc i
+    → eqb (get_or bits i 0) 1 ≡ is_some (first_atom x l)
+bit_tells keys links bits n l W x i e =
+    ap (λ (b : ℕ). eqb b 1) (W.known x i e) ∙ bit (member x (names l)) ∙ sym (found_member x l)
   where
     bit : (b : Bool) → eqb (cond b 1 0) 1 ≡ b
     bit true = refl
     bit false = refl
 
 -- ---- a walk over the atoms
-pub record Noting (s keys links bits : List ℕ) (n at : ℕ) (seen : Bool) : Type 0 where
-  pub inside : at ≤ length s
+pub record Noting (s keys links bits : List ℕ) (n : ℕ) (w : Walk) : Type 0 where
   pub done : List AtomLine
-  pub split : atoms_of s ≡ done ++ atoms (rest s at seen)
+  pub split : atoms_of s ≡ done ++ atoms (left w)
   pub wanted : Wanted keys links bits n (names done)
 
-pub noting_start : (s keys links bits : List ℕ) (n : ℕ) → Wanted keys links bits n [] → Noting s keys links bits n 0 false
-noting_start s keys links bits n W = record { inside = omega arith; done = []; split = refl; wanted = W }
+pub noting_start : (s keys links bits : List ℕ) (n : ℕ) (w : Walk) → Begins s w → Wanted keys links bits n [] → Noting s keys links bits n w
+noting_start s keys links bits n w b W = record { done = []; split = ap atoms (sym b.all); wanted = W }
 
-module _ (s keys links bits : List ℕ) (n at : ℕ) (seen : Bool) (N : Noting s keys links bits n at seen) where
-  pub noting_over : rest s at seen ≡ [] → Wanted keys links bits n (names (atoms_of s))
+module _ (s keys links bits : List ℕ) (n : ℕ) (w : Walk) (N : Noting s keys links bits n w) where
+  pub noting_over : left w ≡ [] → Wanted keys links bits n (names (atoms_of s))
   unfolding atoms
   noting_over e =
       subst (λ (l : List AtomLine). Wanted keys links bits n (names l))
       (sym (N.split ∙ ap (λ (t : List Record). N.done ++ atoms t) e ∙ append-nil N.done)) N.wanted
 
-  pub noting_more : (r : Record) (p : ℕ) (v : Bool) → Onward s at seen r p v → (bits' : List ℕ) → Wanted keys links bits' n (names (N.done ++ atoms_in r)) → Noting s keys links bits' n p v
+  pub noting_more : (r : Record) (w' : Walk) → Onward w r w' → (bits' : List ℕ) → Wanted keys links bits' n (names (N.done ++ atoms_in r)) → Noting s keys links bits' n w'
   unfolding atoms
-  noting_more r p v o bits' W = record {
-    inside = o.within;
+  noting_more r w' o bits' W = record {
     done = N.done ++ atoms_in r;
-    split = N.split ∙ ap (λ (t : List Record). N.done ++ atoms t) o.is ∙ sym (append_assoc N.done (atoms_in r) (atoms (rest s p v)));
+    split = N.split ∙ ap (λ (t : List Record). N.done ++ atoms t) o.is ∙ sym (append_assoc N.done (atoms_in r) (atoms (left w')));
     wanted = W;
   }

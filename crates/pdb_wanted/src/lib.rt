@@ -1,13 +1,13 @@
 // Which of the residues that segments name a file has. Where there are more than the tables of a survey hold, many are looked for in one walk.
 #![tactic(auto)]
 
-ghost use Rattle.std.specs.Prelude.{◌≡◌, true, false, List, [], ◌∷◌, ◌++◌, ℕ, ◌≤◌, length};
+ghost use Rattle.std.specs.Prelude.{◌≡◌, true, false, List, [], ◌∷◌, ◌++◌, ℕ, length};
 ghost use Rattle.appearance.specs.Index.{Index};
 ghost use Rattle.pdb_records.specs.declared.AtomLine.{AtomLine};
 ghost use Rattle.pdb_file.specs.Reading.{atoms_in, atoms_of, names};
 ghost use Rattle.pdb_wanted.specs.Wanted.{Wanted};
 
-use pdb_file::Next;
+use pdb_file::Walk;
 use pdb_records::Record;
 
 // An empty index.
@@ -27,10 +27,7 @@ fn want_ends(keys: &mut [u64; 16384], links: &mut [usize; 32768], n: usize, r: R
             let m = appearance::add(keys, links, n, g.start);
             appearance::add(keys, links, m, g.end)
         }
-        Record::AnAtom(_) => n,
-        Record::Skipped => n,
-        Record::Short => n,
-        Record::BadNumber => n,
+        _ => n,
     }
 }
 
@@ -46,9 +43,8 @@ fn note_name(
     ensures { (l : List ℕ) → Wanted keys.now links.now bits.old n l
         → Wanted keys.now links.now bits.new n (l ++ (name ∷ [])) }
 {
-    let p = appearance::find(keys, links, n, name);
-    if 0 < p {
-        bits[p - 1] = 1;
+    if let Some(i) = appearance::find(keys, links, n, name) {
+        bits[i] = 1;
     }
 }
 
@@ -64,37 +60,22 @@ fn note_atom(
     ensures { (l : List AtomLine) → Wanted keys.now links.now bits.old n (names l)
         → Wanted keys.now links.now bits.new n (names (l ++ atoms_in r)) }
 {
-    match r {
-        Record::AnAtom(a) => note_name(keys, links, n, bits, a.name),
-        Record::ASegment(_) => {}
-        Record::Skipped => {}
-        Record::Short => {}
-        Record::BadNumber => {}
+    if let Record::AnAtom(a) = r {
+        note_name(keys, links, n, bits, a.name);
     }
 }
 
 // The names of the segments from a place of the file on, until the index is full: how many.
-fn gather(
-    s: &[u8],
-    at: usize,
-    seen: bool,
-    keys: &mut [u64; 16384],
-    links: &mut [usize; 32768],
-) -> usize
-    requires { (at ≤ length s.now) × (Index keys.old links.old 0) }
+fn gather<'a>(from: Walk<'a>, keys: &mut [u64; 16384], links: &mut [usize; 32768]) -> usize
+    requires { Index keys.old links.old 0 }
     ensures { Index keys.new links.new result }
 {
-    let mut from = at;
-    let mut model = seen;
     let mut n = 0;
-    while n < 16383 {
-        let next = pdb_file::step(s, from, model);
-        let Next::Got(r, a, v) = next else {
+    for r in from {
+        if 16383 <= n {
             return n;
-        };
+        }
         n = want_ends(keys, links, n, r);
-        from = a;
-        model = v;
     }
     n
 }
@@ -110,16 +91,8 @@ fn note_atoms(
     requires { Wanted keys.now links.now bits.old n [] }
     ensures { Wanted keys.now links.now bits.new n (names (atoms_of s.now)) }
 {
-    let mut at = 0;
-    let mut seen = false;
-    loop {
-        let next = pdb_file::step(s, at, seen);
-        let Next::Got(r, a, v) = next else {
-            return;
-        };
+    for r in pdb_file::records(s) {
         note_atom(keys, links, n, bits, r);
-        at = a;
-        seen = v;
     }
 }
 
@@ -129,15 +102,10 @@ fn are_in(keys: &[u64; 16384], links: &[usize; 32768], n: usize, r: Record) -> b
 {
     match r {
         Record::ASegment(g) => {
-            if appearance::find(keys, links, n, g.start) == 0 {
-                return false;
-            }
-            0 < appearance::find(keys, links, n, g.end)
+            appearance::find(keys, links, n, g.start).is_some()
+                && appearance::find(keys, links, n, g.end).is_some()
         }
-        Record::AnAtom(_) => true,
-        Record::Skipped => true,
-        Record::Short => true,
-        Record::BadNumber => true,
+        _ => true,
     }
 }
 
@@ -146,17 +114,12 @@ fn serves(keys: &[u64; 16384], links: &[usize; 32768], n: usize, more: bool, r: 
     requires { Index keys.now links.now n }
     ensures { more ≡ false → result ≡ true }
 {
-    if more {
-        return are_in(keys, links, n, r);
-    }
-    true
+    !more || are_in(keys, links, n, r)
 }
 
-// An index that serves for the line at `at`: the one at hand, or one of the names from this line on.
-pub fn refresh(
-    s: &[u8],
-    at: usize,
-    seen: bool,
+// An index that serves for the line `r`, where `from` is: the one at hand, or one of the names from this line on.
+pub fn refresh<'a>(
+    from: Walk<'a>,
     keys: &mut [u64; 16384],
     links: &mut [usize; 32768],
     bits: &mut [u8; 16384],
@@ -164,16 +127,16 @@ pub fn refresh(
     more: bool,
     r: Record,
 ) -> usize
-    requires { (at ≤ length s.now) × (Wanted keys.old links.old bits.old n (names (atoms_of s.now))) }
-    ensures { (Wanted keys.new links.new bits.new result (names (atoms_of s.now)))
+    requires { Wanted keys.old links.old bits.old n (names (atoms_of from.text.now)) }
+    ensures { (Wanted keys.new links.new bits.new result (names (atoms_of from.entry.text.now)))
         × (more ≡ false → (keys.new ≡ keys.old) × (links.new ≡ links.old) × (result ≡ n)) }
 {
     if serves(keys, links, n, more, r) {
         return n;
     }
     forget(links);
-    let m = gather(s, at, seen, keys, links);
+    let m = gather(from, keys, links);
     *bits = [0u8; 16384];
-    note_atoms(s, keys, links, m, bits);
+    note_atoms(from.text, keys, links, m, bits);
     m
 }

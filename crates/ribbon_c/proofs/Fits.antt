@@ -11,7 +11,6 @@ use Rattle.protein.specs.Layout.{head_of}
 use Rattle.job.specs.Refusals.{number_of, size_numbers}
 use Rattle.job.specs.declared.Refusal.{Refusal}
 use Rattle.job.specs.declared.Refusal.TheVariants.{NoRoom, NoJobRoom, NoStlRoom}
-use Rattle.pdb_reader.specs.declared.Read.TheVariants.{Written, NoJob}
 use Rattle.pdb_reader.specs.Call.{read_numbers, Reads}
 use Rattle.pdb_reader.proofs.Demands.{read_determined, buffer_passes, size_below, needed_below}
 use Rattle.tubes.specs.Tubes.{Tube}
@@ -33,6 +32,7 @@ use Rattle.promises.proofs.Tubes.{AllLong, list_long_of, long_sums}
 use Rattle.promises.proofs.Checks.{passes_by}
 use Rattle.promises.proofs.Demands.{build_determined, plan_determined, past_checks, plan_past_checks, accepted, plan_accepted, room_means}
 use Rattle.ribbon_c.specs.Words.{word_of, words_of, BuildsWords, PlansWords, ReadsWords, WritesStlWords, ReadsStlWords, BuildsShareWords, PlansRecordsWords}
+use Rattle.std.specs.Prelude.{Ok, Err}
 
 -- ---- one answer, and one content of every buffer
 
@@ -78,11 +78,11 @@ records_words_determined A D = (
 -- ---- from the reader to the builder: a job that was read is refused by no check before 9
 
 pub read_then_build : {s out out' : List ℕ} {n : ℕ} {b b' : Buffers} {q : Refusal}
-    → Reads s out (Written n) out' → Builds (take n out') b (NoMesh q) b' → 9 ≤ number_of q
+    → Reads s out (Ok n) out' → Builds (take n out') b (NoMesh q) b' → 9 ≤ number_of q
 read_then_build R B = past_checks (passes_by _ _ (buffer_passes R)) B
 
 pub read_then_plan : {s out out' : List ℕ} {n k : ℕ} {c c' : Scratch} {q : Refusal}
-    → Reads s out (Written n) out' → Plans (take n out') k c (NoPlan q) c' → 9 ≤ number_of q
+    → Reads s out (Ok n) out' → Plans (take n out') k c (NoPlan q) c' → 9 ≤ number_of q
 read_then_plan R P = plan_past_checks (passes_by _ _ (buffer_passes R)) P
 
 -- ---- no count is cut
@@ -118,11 +118,11 @@ room_fits {s} B =
     rw (M.1.0, M.1.1, M.1.2) (ap (λ (x : List ℕ). 11 ∷ x) (counts_fit (tubes_in s) (list_long_of s (head_of s)) M.0.limit))
 
 -- a job's size, and the one that refusal 16 carries
-pub size_fits : {s out out' : List ℕ} {n : ℕ} → Reads s out (Written n) out' → words_of (read_numbers (Written n)) ≡ read_numbers (Written n)
+pub size_fits : {s out out' : List ℕ} {n : ℕ} → Reads s out (Ok n) out' → words_of (read_numbers (Ok n)) ≡ read_numbers (Ok n)
 size_fits {n = n} R = rw (word_same n (size_below R))
 
-pub needed_fits : {s out out' : List ℕ} {n : ℕ} → Reads s out (NoJob (NoJobRoom n)) out'
-    → words_of (read_numbers (NoJob (NoJobRoom n))) ≡ read_numbers (NoJob (NoJobRoom n))
+pub needed_fits : {s out out' : List ℕ} {n : ℕ} → Reads s out (Err (NoJobRoom n)) out'
+    → words_of (read_numbers (Err (NoJobRoom n))) ≡ read_numbers (Err (NoJobRoom n))
 needed_fits {n = n} R = rw (word_same n (needed_below R))
 
 -- the size of an STL file, and the one that refusal 18 carries; the count of a file that was listed, and the one that 18 carries

@@ -2,7 +2,6 @@
 use Rattle.std.specs.Prelude.{ℕ, ◌+◌, ◌%◌, List, [], ◌∷◌, ◌≡◌, get_or, Result}
 use Rattle.job.specs.Refusals.{size_numbers}
 use Rattle.job.specs.declared.Refusal.{Refusal}
-use Rattle.pdb_reader.specs.declared.Read.{Read}
 use Rattle.pdb_reader.specs.Call.{read_numbers, Reads}
 use Rattle.buffers.specs.declared.Counts.{Counts}
 use Rattle.buffers.specs.Outs.{Outs}
@@ -38,7 +37,7 @@ pub record PlansWords (s : List ℕ) (k : ℕ) (c : Scratch) (a : List ℕ) (c' 
 
 -- ribbon_read_pdb, of a file's bytes s, where the job's buffer held out
 pub record ReadsWords (s out a out' : List ℕ) : Type 0 where
-  pub answer : Read
+  pub answer : Result ℕ Refusal
   pub promise : Reads s out answer out'
   pub words : a ≡ words_of (read_numbers answer)
 

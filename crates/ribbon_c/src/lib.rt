@@ -14,7 +14,6 @@ ghost use Rattle.ribbon_c.specs.Words.{share_at, shares_at, BuildsShareWords, Pl
 
 use buffers::Counts;
 use job::Refusal;
-use pdb_reader::Read;
 use promises::{Built, Planned};
 use shares::{Share, Shares};
 
@@ -62,12 +61,12 @@ fn planned_words(a: Planned) -> [u32; 9]
     }
 }
 
-fn read_words(a: Read) -> [u32; 4]
+fn read_words(a: Result<usize, Refusal>) -> [u32; 4]
     ensures { result ≡ words_of (read_numbers a) }
 {
     match a {
-        Read::Written(n) => [0, word(n), 0, 0],
-        Read::NoJob(r) => refusal_words(r),
+        Ok(n) => [0, word(n), 0, 0],
+        Err(r) => refusal_words(r),
     }
 }
 

@@ -9,7 +9,6 @@ ghost use Rattle.model_theorems.specs.Large.{LargeRoom, large_job};
 
 use files::{Source, say};
 use model::{Made, Wish};
-use scaling::Factor;
 use std::io::Stdout;
 use words::Else;
 
@@ -310,10 +309,9 @@ fn run(rt: &HostRuntime, m: u32, large: bool) -> u8
 fn run_words(rt: &HostRuntime) -> u8 {
     let mut text = io::buffer();
     let n = files::argument(rt, 2, &mut text);
-    let f = scaling::factor_in(&text[..n]);
-    match f {
-        Factor::Good(m) => run(rt, m, is_word(rt, 1, b"large")),
-        Factor::Bad => {
+    match scaling::factor_in(&text[..n]) {
+        Some(m) => run(rt, m, is_word(rt, 1, b"large")),
+        None => {
             say(
                 b"ribbon: this is no scale: one to four digits and, if wanted, a point with one to three digits behind it, from 0.001 to 1000\n",
             );

@@ -3,7 +3,6 @@
 #![tactic(auto)]
 
 use files::Source;
-use pdb_reader::Read;
 use std::io::Stdout;
 use words::Else;
 
@@ -31,8 +30,8 @@ fn send(to: Stdout, file: &[u8], job: &[u8]) -> bool {
 fn write_job(to: Stdout, file: &[u8], job: &mut [u8]) -> bool {
     let a = pdb_reader::read_pdb(file, job);
     match a {
-        Read::Written(n) => send(to, file, &job[..n]),
-        Read::NoJob(r) => {
+        Ok(n) => send(to, file, &job[..n]),
+        Err(r) => {
             pdb_notes::tell_refused(file, r);
             false
         }

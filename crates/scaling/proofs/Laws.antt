@@ -22,7 +22,7 @@ use Rattle.pdb_fields.proofs.Laws.{small}
 use Rattle.buffers.specs.declared.Counts.{Counts}
 use Rattle.buffers.specs.Outs.{Outs, sizes}
 use Rattle.consistency.specs.Consistent.{consistent_in, consistent}
-use Rattle.scaling.specs.declared.Factor.TheVariants.{Bad, Good}
+use Rattle.std.specs.Prelude.{Some, None}
 use Rattle.scaling.specs.Scale.{front, point, back, formed, thousandths, within, factor_in, factor, scaled, scaled_mesh}
 use Rattle.scaling.proofs.One.{times_one}
 
@@ -67,18 +67,18 @@ lead_small b (x ∷ l) = go (eqb x b)
     go true = omega arith
     go false = omega arith
 
-pub long_bad : (l : List ℕ) → 8 < length l → Bad ≡ factor_in l
+pub long_bad : (l : List ℕ) → 8 < length l → None ≡ factor_in l
 unfolding factor_in
-long_bad l h = ap (λ (t : Bool). cond t (within (thousandths l)) Bad) (too_long (front l) (point l) (back l) (length l) (lead_small 46 (drop (front l) l)) h)
+long_bad l h = ap (λ (t : Bool). cond t (within (thousandths l)) None) (too_long (front l) (point l) (back l) (length l) (lead_small 46 (drop (front l) l)) h)
 
 -- a number of thousandths, and what makes one of it
-pub no_scale : (m : ℕ) → m < 1 → Bad ≡ within m
+pub no_scale : (m : ℕ) → m < 1 → None ≡ within m
 no_scale m h = rw (lt-leb 1 m h)
 
-pub large_scale : (m : ℕ) → 1 ≤ m → 1000000 < m → Bad ≡ within m
+pub large_scale : (m : ℕ) → 1 ≤ m → 1000000 < m → None ≡ within m
 large_scale m h g = rw (le-leb 1 m h, lt-leb m 1000000 g)
 
-pub good_scale : (m : ℕ) → 1 ≤ m → m ≤ 1000000 → Good m ≡ within m
+pub good_scale : (m : ℕ) → 1 ≤ m → m ≤ 1000000 → Some m ≡ within m
 good_scale m h g = rw (le-leb 1 m h, le-leb m 1000000 g)
 
 pub tens_at : (n e : ℕ) → e ≡ n → 10 ^ (3 - n) ≡ 10 ^ (3 - e)
@@ -121,22 +121,22 @@ module _ (l : List ℕ) (d v p e w : ℕ) (hd : Digits l 0 0 d v) (hp : p ≡ le
   form_is : formed (front l) (point l) (back l) (length l) ≡ formed d p (e - (d + p)) (length l)
   form_is = ap (λ (n : ℕ). formed n (point l) (back l) (length l)) front_is ∙ ap (λ (n : ℕ). formed d n (back l) (length l)) point_is ∙ ap (λ (n : ℕ). formed d p n (length l)) back_is
 
-  pub factor_bad : formed d p (e - (d + p)) (length l) ≡ false → Bad ≡ factor_in l
+  pub factor_bad : formed d p (e - (d + p)) (length l) ≡ false → None ≡ factor_in l
   unfolding factor_in
-  factor_bad f = sym (ap (λ (t : Bool). cond t (within (thousandths l)) Bad) (form_is ∙ f))
+  factor_bad f = sym (ap (λ (t : Bool). cond t (within (thousandths l)) None) (form_is ∙ f))
 
   pub factor_good : formed d p (e - (d + p)) (length l) ≡ true → within (w * 10 ^ (3 - (e - (d + p)))) ≡ factor_in l
   unfolding factor_in
-  factor_good f = sym (ap (λ (t : Bool). cond t (within (thousandths l)) Bad) (form_is ∙ f) ∙ ap within value_is)
+  factor_good f = sym (ap (λ (t : Bool). cond t (within (thousandths l)) None) (form_is ∙ f) ∙ ap within value_is)
 
-pub good_within : (l : List ℕ) (m : ℕ) → factor_in l ≡ Good m → (1 ≤ m) × (m ≤ 1000000)
+pub good_within : (l : List ℕ) (m : ℕ) → factor_in l ≡ Some m → (1 ≤ m) × (m ≤ 1000000)
 unfolding factor_in
 good_within l m = go (formed (front l) (point l) (back l) (length l)) (leb 1 t) (leb t 1000000) (leb-true 1 t) (leb-true t 1000000)
   where
     t : ℕ
     t = thousandths l
 
-    go : (f a b : Bool) → (a ≡ true → 1 ≤ t) → (b ≡ true → t ≤ 1000000) → cond f (cond (a && b) (Good t) Bad) Bad ≡ Good m → (1 ≤ m) × (m ≤ 1000000)
+    go : (f a b : Bool) → (a ≡ true → 1 ≤ t) → (b ≡ true → t ≤ 1000000) → cond f (cond (a && b) (Some t) None) None ≡ Some m → (1 ≤ m) × (m ≤ 1000000)
     go true true true x y e =
         let q : t ≡ m = cc in
         let p = x refl in

@@ -12,7 +12,7 @@ use lib.ListN.{length, take, drop, length-append, length-drop, take-append-drop}
 use lib.Seq.{take-length, drop-length, take-append_seam, drop-append_seam, drop-append-add, drop-drop, length-take-le}
 use borrow.Author.Tests.{eq-eqb, eqb-true}
 use Rattle.pdb_fields.specs.Numbers.{run, is_digit, decimal, lead}
-use Rattle.scaling.specs.declared.Factor.TheVariants.{Bad, Good}
+use Rattle.std.specs.Prelude.{Some, None}
 use Rattle.scaling.specs.Scale.{front, point, back, formed, thousandths, within, factor_in}
 use Rattle.scaling.specs.Written.{Digital, Pointed}
 use Rattle.scaling.proofs.Laws.{all_there, lead_small}
@@ -51,10 +51,10 @@ module _ (l a b : List ℕ) (p : ℕ) (f : front l ≡ length a) (q : lead 46 (d
       → factor_in l ≡ within (decimal (decimal 0 a) b * 10 ^ (3 - length b))
   unfolding factor_in
   written h₁ h₂ h₃ h₄ n =
-      ap (λ (k : ℕ). cond (formed k (point l) (back l) (length l)) (within (thousandths l)) Bad) f
-      ∙ ap (λ (k : ℕ). cond (formed (length a) k (back l) (length l)) (within (thousandths l)) Bad) point_is
-      ∙ ap (λ (k : ℕ). cond (formed (length a) p k (length l)) (within (thousandths l)) Bad) back_is
-      ∙ ap (λ (c : Bool). cond c (within (thousandths l)) Bad) (sym (all_there (length a) p (length b) (length l) h₁ h₂ h₃ h₄) ∙ eq-eqb (length a + p + length b) (length l) n)
+      ap (λ (k : ℕ). cond (formed k (point l) (back l) (length l)) (within (thousandths l)) None) f
+      ∙ ap (λ (k : ℕ). cond (formed (length a) k (back l) (length l)) (within (thousandths l)) None) point_is
+      ∙ ap (λ (k : ℕ). cond (formed (length a) p k (length l)) (within (thousandths l)) None) back_is
+      ∙ ap (λ (c : Bool). cond c (within (thousandths l)) None) (sym (all_there (length a) p (length b) (length l) h₁ h₂ h₃ h₄) ∙ eq-eqb (length a + p + length b) (length l) n)
       ∙ ap within value_is
 
 pub whole_taken : (a : List ℕ) → Digital 4 a → factor_in a ≡ within (decimal 0 a * 1000)
@@ -102,15 +102,15 @@ form_means d p e n h =
       eqb→eq (d + p + e) n (and_r (leb e (3 * p)) (eqb (d + p + e) n) c),
     )
 
-formed_good : (l : List ℕ) (m : ℕ) → factor_in l ≡ Good m → T (formed (front l) (point l) (back l) (length l))
+formed_good : (l : List ℕ) (m : ℕ) → factor_in l ≡ Some m → T (formed (front l) (point l) (back l) (length l))
 unfolding factor_in
 formed_good l m = go (formed (front l) (point l) (back l) (length l))
   where
-    go : (c : Bool) → cond c (within (thousandths l)) Bad ≡ Good m → T c
+    go : (c : Bool) → cond c (within (thousandths l)) None ≡ Some m → T c
     go true e = tt
     go false e = absurd (let z : ◌≡◌ {A = ℕ} 0 1 = cc in omega arith)
 
-pub only_so : (l : List ℕ) (m : ℕ) → factor_in l ≡ Good m → Digital 4 l ⊎ Pointed l (take (front l) l) (drop (front l + 1) l)
+pub only_so : (l : List ℕ) (m : ℕ) → factor_in l ≡ Some m → Digital 4 l ⊎ Pointed l (take (front l) l) (drop (front l + 1) l)
 only_so l m g = go (point l) refl (lead_small 46 (drop (front l) l))
   where
     h : (1 ≤ front l) × (front l ≤ 4) × (point l ≤ back l) × (back l ≤ 3 * point l) × (front l + point l + back l ≡ length l)

@@ -1,11 +1,9 @@
 -- The size of a model: how many millimetres an angstrom becomes, how a user writes that, and what it does to coordinates.
-use Rattle.std.specs.Prelude.{ℕ, ◌+◌, ◌*◌, ◌-◌, ◌^◌, Bool, false, ◌&&◌, cond, List, map, eqb, leb, Float, length, take, drop}
+use Rattle.std.specs.Prelude.{ℕ, ◌+◌, ◌*◌, ◌-◌, ◌^◌, Bool, false, ◌&&◌, cond, List, map, eqb, leb, Float, length, take, drop, Option, Some, None}
 use Rattle.std.specs.Float.{binary32}
 use Rattle.std.specs.Float.Ieee.{round, mul}
 use Rattle.buffers.specs.Outs.{Outs, outs}
 use Rattle.pdb_fields.specs.Numbers.{run, is_digit, decimal, lead}
-use Rattle.scaling.specs.declared.Factor.{Factor}
-use Rattle.scaling.specs.declared.Factor.TheVariants.{Bad, Good}
 
 -- ---- as it is written
 
@@ -29,12 +27,12 @@ unfoldable pub thousandths : List ℕ → ℕ
 thousandths l = decimal (decimal 0 (take (front l) l)) (take (back l) (drop (front l + point l) l)) * 10 ^ (3 - back l)
 
 -- 'from 0.001 to 1000'
-abbrev pub within : ℕ → Factor
-within m = cond (leb 1 m && leb m 1000000) (Good m) Bad
+abbrev pub within : ℕ → Option ℕ
+within m = cond (leb 1 m && leb m 1000000) (Some m) None
 
--- THE definition: what a user's scale says, in thousandths of a millimetre for an angstrom; all else is Bad
-unfoldable pub factor_in : List ℕ → Factor
-factor_in l = cond (formed (front l) (point l) (back l) (length l)) (within (thousandths l)) Bad
+-- THE definition: what a user's scale says, in thousandths of a millimetre for an angstrom; all else is None
+unfoldable pub factor_in : List ℕ → Option ℕ
+factor_in l = cond (formed (front l) (point l) (back l) (length l)) (within (thousandths l)) None
 
 -- ---- what it does
 

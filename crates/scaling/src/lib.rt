@@ -4,67 +4,41 @@
 ghost use Rattle.std.specs.Prelude.{◌≡◌, ◌+◌, ◌-◌, ◌^◌, ◌≤◌};
 ghost use Rattle.scaling.specs.Scale.{formed, within, factor_in, factor, scaled};
 
-// Thousandths of a millimetre for an angstrom.
-#[derive(Drop)]
-pub enum Factor {
-    Bad,
-    Good(u32),
-}
-
 // Whether so many digits, points and digits behind them are a scale, and all of so many bytes.
 fn is_formed(front: usize, point: usize, back: usize, bytes: usize) -> bool
     requires { front + point + back ≤ 8 }
     ensures { result ≡ formed front point back bytes }
 {
-    if front < 1 {
-        return false;
-    }
-    if 4 < front {
-        return false;
-    }
-    if back < point {
-        return false;
-    }
-    if 3 * point < back {
-        return false;
-    }
-    front + point + back == bytes
+    (1..=4).contains(&front) && point <= back && back <= 3 * point && front + point + back == bytes
 }
 
 // What a number with so many digits behind its point is to be multiplied by, so that it is in thousandths.
 fn tens(back: usize) -> u64
     ensures { (result ≡ 10 ^ (3 - back)) × (result ≤ 1000) }
 {
-    if back == 0 {
-        return 1000;
+    match back {
+        0 => 1000,
+        1 => 100,
+        2 => 10,
+        _ => 1,
     }
-    if back == 1 {
-        return 100;
-    }
-    if back == 2 {
-        return 10;
-    }
-    1
 }
 
-fn within(m: u64) -> Factor
+fn within(m: u64) -> Option<u32>
     ensures { result ≡ within m }
 {
-    if m < 1 {
-        return Factor::Bad;
+    if (1..=1000000).contains(&m) {
+        return Some(m as u32);
     }
-    if 1000000 < m {
-        return Factor::Bad;
-    }
-    Factor::Good(m as u32)
+    None
 }
 
-// The scale that a user wrote.
-pub fn factor_in(l: &[u8]) -> Factor
+// The scale that a user wrote, in thousandths of a millimetre for an angstrom; `None` where it is none.
+pub fn factor_in(l: &[u8]) -> Option<u32>
     ensures { result ≡ factor_in l.now }
 {
     if 8 < l.len() {
-        return Factor::Bad;
+        return None;
     }
     let whole = pdb_fields::digits(l, 0, 0);
     let front = whole.next;
@@ -74,7 +48,7 @@ pub fn factor_in(l: &[u8]) -> Factor
     if is_formed(front, point, back, l.len()) {
         return within((all.value as u64) * tens(back));
     }
-    Factor::Bad
+    None
 }
 
 // The factor itself: `m` is exact in f32, and so is 1000, so the division alone rounds.
@@ -89,9 +63,7 @@ pub fn factor_of(m: u32) -> f32
 pub fn scale_positions(positions: &mut [f32], k: f32)
     ensures { positions.new ≡ scaled k positions.old }
 {
-    let mut i = 0;
-    while i < positions.len() {
-        positions[i] = positions[i] * k;
-        i += 1;
+    for x in positions.iter_mut() {
+        *x = *x * k;
     }
 }

@@ -1,13 +1,5 @@
-use Prim.Native.Nat.{◌≤◌, ◌-◌}
-use lib.ListN.{length}
-use native.Mathlib.Omega.{arith}
-use borrow.Author.Rules.{rules}
 use Rattle.appearance.specs.Index.{Index}
-use Rattle.pdb_file.proofs.Laws.{stepped_got}
 use Rattle.breaks.proofs.list_names.Given as goal
 
 abbrev pub invariant-loop-r : goal.invariant-loop-r
-invariant-loop-r l = (l.at ≤ length l.s) × Index l.keys l.links l.n
-
-abbrev pub decreases-loop-r : goal.decreases-loop-r
-decreases-loop-r l = length l.s - l.at
+invariant-loop-r l = (goal.iterator-loop-r).can_next l.r-iterator × (goal.iterator-loop-r).is_finite l.r-iterator × Index l.keys l.links l.n

@@ -1,26 +1,16 @@
-use Prim.Native.Nat.{ℕ, ◌≤◌, ◌-◌, ◌+◌}
-use mathlib.Core.Path.{◌≡◌, refl}
-use mathlib.Core.List.{[], ◌∷◌}
+use mathlib.Core.Path.{◌≡◌, sym, ap, ◌∙◌}
+use mathlib.Core.List.{append_assoc}
 use native.Mathlib.Omega.{arith}
-use borrow.Author.Rules.{rules}
-use Rattle.lists.specs.Put.{put, upto}
-use Rattle.lists.proofs.Puts.{set_turn, kept, upto_replicate}
+use Prim.Native.Nat.{◌+◌, ◌-◌, ◌≤◌}
+use lib.ListN.{length, take, drop, replicate, length-replicate, length-take, length-drop}
+use lib.Seq.{drop-drop}
+use Rattle.lists.proofs.Puts.{put_eq}
 use Rattle.job_writer.proofs.put_visible.Goals as goal
-
-pub loop-k-init : goal.loop-k-init
-unfolding put upto
-loop-k-init c = (omega arith, refl)
-
-pub bounds-out-at : goal.bounds-out-at
-bounds-out-at c = omega (arith, kept _ _ _ c.loop-k.invariant.1)
-
-pub loop-k-preserved : goal.loop-k-preserved
-loop-k-preserved c = (omega arith, set_turn _ _ _ (c.args.at + c.loop-k.k) c.loop-k.k c.loop-k.invariant.1 refl refl)
-
-pub shape_of-out : goal.shape_of-out
-shape_of-out c = kept _ _ _ c.loop-k.invariant.1
 
 pub returns : goal.returns
 returns c =
-    let e : c.loop-k.k ≡ c.args.c = omega arith in
-    rw (upto_replicate 1 _) (rw e at c.loop-k.invariant.1)
+    let w : c.args.at + c.args.c - c.args.at ≡ c.args.c = omega arith in
+    let n : length (take c.args.c (drop c.args.at c.args.out.now)) ≡ c.args.c = simp (length-take, length-drop) (omega arith) in
+    let f : c.fill.new.self ≡ replicate c.args.c 1 = rw n at (rw w at (c.fill.ensures.after (λ y e. e))) in
+    let h : c.args.at + length (replicate c.args.c 1) ≤ length c.args.out.now = simp length-replicate c.requires in
+    rw (w, f, drop-drop) (sym (simp (length-replicate, append_assoc) at (put_eq c.args.out.now c.args.at (replicate c.args.c 1) h)))

@@ -6,7 +6,7 @@ use borrow.Author.Rules.{rules}
 use Rattle.model.proofs.make.Goals as goal
 
 pub slice_bounds-build_model-end : goal.slice_bounds-build_model-end
-slice_bounds-build_model-end c = omega (arith, c.job-1.given, written_fits c.read_pdb-a.ensures c.in-Written.is)
+slice_bounds-build_model-end c = omega (arith, c.job-1.given, written_fits c.read_pdb-a.ensures c.in-Ok.is)
 
-pub slice_bounds-build_model-end-in-Written : goal.slice_bounds-build_model-end-in-Written
-slice_bounds-build_model-end-in-Written c = sym (length-take-le _ _ (omega (arith, c.job-1.given, written_fits c.read_pdb-a.ensures c.in-Written.is)))
+pub slice_bounds-build_model-end-in-Ok : goal.slice_bounds-build_model-end-in-Ok
+slice_bounds-build_model-end-in-Ok c = sym (length-take-le _ _ (omega (arith, c.job-1.given, written_fits c.read_pdb-a.ensures c.in-Ok.is)))

@@ -10,6 +10,3 @@ use Rattle.pdb_fields.proofs.digits.Given as goal
 
 abbrev pub invariant-loop-k : goal.invariant-loop-k
 invariant-loop-k l = (l.i ≤ l.k) × (l.k ≤ length l.l) × (l.i + run is_digit (drop l.i l.l) ≡ l.k + run is_digit (drop l.k l.l)) × (decimal l.v (take (run is_digit (drop l.i l.l)) (drop l.i l.l)) ≡ decimal l.value (take (run is_digit (drop l.k l.l)) (drop l.k l.l))) × (l.value < 10 ^ l.k)
-
-abbrev pub decreases-loop-k : goal.decreases-loop-k
-decreases-loop-k l = length l.l - l.k

@@ -18,4 +18,4 @@ pub loop-k-preserved : goal.loop-k-preserved
 loop-k-preserved c = (omega arith, omega arith, run_turn is_blank _ _ _ c.loop-k.invariant.2 c.loop-k-test.true (eq-eqb _ _ c.if-l-k-ne32.false))
 
 pub returns : goal.returns
-returns c = (stop_over is_blank _ _ _ c.loop-k.invariant.2 c.loop-k-test.false, omega arith)
+returns c = (let e : length c.args.l.now ≡ c.loop-k.k = omega arith in rw e (stop_over is_blank _ _ _ c.loop-k.invariant.2 (omega arith)), omega arith)

@@ -10,6 +10,3 @@ use Rattle.pdb_fields.proofs.past_blanks.Given as goal
 
 abbrev pub invariant-loop-k : goal.invariant-loop-k
 invariant-loop-k l = (l.i ≤ l.k) × (l.k ≤ length l.l) × (l.i + run is_blank (drop l.i l.l) ≡ l.k + run is_blank (drop l.k l.l))
-
-abbrev pub decreases-loop-k : goal.decreases-loop-k
-decreases-loop-k l = length l.l - l.k

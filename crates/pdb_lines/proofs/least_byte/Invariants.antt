@@ -7,6 +7,3 @@ use Rattle.pdb_lines.proofs.least_byte.Given as goal
 
 abbrev pub invariant-loop-k : goal.invariant-loop-k
 invariant-loop-k l = (l.k ≤ 16) × ((j : ℕ) → j < l.k → l.least ≤ get_or l.s (l.i + j) 0)
-
-abbrev pub decreases-loop-k : goal.decreases-loop-k
-decreases-loop-k l = 16 - l.k

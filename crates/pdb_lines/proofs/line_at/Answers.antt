@@ -23,4 +23,5 @@ loop-i-preserved c = let z : c.ending_at-e.result ≡ 0 = omega arith in
     (omega arith, omega arith, turn _ _ _ c.loop-i.invariant.0 c.loop-i-test.true (sym c.ending_at-e.ensures.0 ∙ z) c.loop-i.invariant.2)
 
 pub returns : goal.returns
-returns c = record { cut = over _ _ _ c.requires c.loop-i-test.false c.loop-i.invariant.2; start = omega arith; end = omega arith; onward = omega arith; within = omega arith }
+returns c = let e : length c.args.s.now ≡ c.loop-i.i = omega arith in
+    record { cut = rw e (over _ _ _ c.requires (omega arith) c.loop-i.invariant.2); start = omega arith; end = omega arith; onward = omega arith; within = omega arith }

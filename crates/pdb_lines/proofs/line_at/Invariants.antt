@@ -10,6 +10,3 @@ use Rattle.pdb_lines.proofs.line_at.Given as goal
 
 abbrev pub invariant-loop-i : goal.invariant-loop-i
 invariant-loop-i l = (l.at ≤ l.i) × (l.i ≤ length l.s) × (lines (drop l.at l.s) ≡ ontos (take (l.i - l.at) (drop l.at l.s)) (lines (drop l.i l.s)))
-
-abbrev pub decreases-loop-i : goal.decreases-loop-i
-decreases-loop-i l = length l.s - l.i

@@ -2,7 +2,7 @@ use Prim.Native.Nat.{◌-◌}
 use lib.ListN.{length}
 use native.Mathlib.Omega.{arith}
 use borrow.Author.Rules.{rules}
-use Rattle.pdb_search.proofs.Laws.{Counting, counting_start, counting_over, counting_more, found_done, found_got}
+use Rattle.pdb_search.proofs.Laws.{Counting}
 use Rattle.pdb_search.proofs.count_lines.Given as goal
 
 abbrev pub invariant-loop-p : goal.invariant-loop-p

@@ -4,7 +4,7 @@ use Rattle.lists.proofs.Bools.{clash}
 use Rattle.pdb_wanted.proofs.refresh.Goals as goal
 
 pub gather-m-requires : goal.gather-m-requires
-gather-m-requires c = (c.requires.0, c.forget.ensures _ c.requires.1.index.keys_size)
+gather-m-requires c = c.forget.ensures _ c.requires.index.keys_size
 
 pub note_atoms-requires : goal.note_atoms-requires
 note_atoms-requires c = unknown _ _ _ c.gather-m.ensures

@@ -1,12 +1,10 @@
-use native.Mathlib.Omega.{arith}
-use mathlib.Core.Path.{refl, subst, sym}
-use Prim.Native.Nat.{ℕ, ◌<◌}
-use Rattle.pdb_job.proofs.Writing.{atom_made}
+use mathlib.Core.Path.{refl}
+use Rattle.pdb_job.proofs.Writing.{found_some, found_at, atom_made}
 use borrow.Author.Rules.{rules}
 use Rattle.pdb_job.proofs.records.to_atom.Goals as goal
 
-pub overflow_sub-result : goal.overflow_sub-result
-overflow_sub-result c = omega (arith, c.find-p.ensures.0, c.requires.1)
+pub unwrap-residue-requires : goal.unwrap-residue-requires
+unwrap-residue-requires c = found_some _ _ _ _ c.find.ensures c.requires.1
 
 pub returns : goal.returns
-returns c = λ s K M. atom_made s _ _ _ c.args.x K M (search rules) _ _ c.find-p.ensures.0 (subst (λ (k : ℕ). 0 < k) (sym c.find-p.ensures.0) c.requires.1) refl c.requires.2
+returns c = λ s K M. atom_made s _ _ _ c.args.x K M (search rules) _ _ (found_at _ _ _ _ _ c.find.ensures c.unwrap-residue.ensures) refl c.requires.2

@@ -1,6 +1,7 @@
 use native.Mathlib.Omega.{arith}
 use mathlib.Core.Path.{ap}
 use Rattle.pdb_file.specs.Reading.{atoms_in, segments_in}
+use Rattle.pdb_file.proofs.Laws.{no_atom, no_segment}
 use Rattle.pdb_job.proofs.Writing.{segment_room, atom_room, counts_are_lem, wrote_segment, wrote_atom, wrote_none}
 use borrow.Author.Rules.{rules}
 use Rattle.pdb_job.proofs.records.write_record.Goals as goal
@@ -23,20 +24,8 @@ pub returns-in-AnAtom : goal.returns-in-AnAtom
 returns-in-AnAtom c = let q = counts_are_lem _ _ c.in-AnAtom.is in
     (λ s R M. wrote_atom _ s _ _ _ _ _ _ c.in-AnAtom.is (c.to_atom-j.ensures s R.keyed M) c.put_atom.ensures, omega (arith, q.0), omega (arith, q.1))
 
-pub returns-in-Skipped : goal.returns-in-Skipped
-returns-in-Skipped c =
-    let p = c.in-Skipped.is in
-    let q = counts_are_lem _ _ p in
-    (λ s R M. wrote_none _ s _ _ _ (ap segments_in p) (ap atoms_in p), omega (arith, q.0), omega (arith, q.1))
-
-pub returns-in-Short : goal.returns-in-Short
-returns-in-Short c =
-    let p = c.in-Short.is in
-    let q = counts_are_lem _ _ p in
-    (λ s R M. wrote_none _ s _ _ _ (ap segments_in p) (ap atoms_in p), omega (arith, q.0), omega (arith, q.1))
-
-pub returns-in-BadNumber : goal.returns-in-BadNumber
-returns-in-BadNumber c =
-    let p = c.in-BadNumber.is in
-    let q = counts_are_lem _ _ p in
-    (λ s R M. wrote_none _ s _ _ _ (ap segments_in p) (ap atoms_in p), omega (arith, q.0), omega (arith, q.1))
+pub returns-in_default : goal.returns-in_default
+returns-in_default c =
+    let a = no_atom _ c.in_default.not-AnAtom in
+    let g = no_segment _ c.in_default.not-ASegment in
+    (λ s R M. wrote_none _ s _ _ _ g a, rw g (omega arith), rw a (omega arith))

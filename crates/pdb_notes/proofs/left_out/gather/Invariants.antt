@@ -2,8 +2,7 @@ use Prim.Native.Nat.{◌-◌}
 use lib.ListN.{length}
 use native.Mathlib.Omega.{arith}
 use borrow.Author.Rules.{rules}
-use Rattle.pdb_search.proofs.Laws.{found_done, found_got}
-use Rattle.pdb_notes.proofs.Gathering.{Gathering, gathering_start, gathering_over, gathering_more}
+use Rattle.pdb_notes.proofs.Gathering.{Gathering}
 use Rattle.pdb_notes.proofs.left_out.gather.Given as goal
 
 abbrev pub invariant-loop-p : goal.invariant-loop-p
