@@ -2,6 +2,7 @@
 -- of a file's bytes s, where the lent buffer held out, it answers r and leaves out'. Which files are the same to the
 -- reader is said in Files. Assumes nothing.
 use Prim.Native.Nat.{ℕ, ◌≤◌, ◌<◌}
+use Rattle.job.proofs.Told.{size_told}
 use mathlib.Core.List.{List, [], ◌∷◌, ◌++◌}
 use mathlib.Core.Path.{◌≡◌, refl, sym, ap, ◌∙◌, subst}
 use lib.ListN.{length, take, drop, get_or}
@@ -22,7 +23,7 @@ use Rattle.pdb_reader.specs.Says.{Sited, head_for, Says}
 use Rattle.pdb_reader.proofs.Passes.{structure_passes}
 use Rattle.pdb_reader.proofs.Says.{structure_says}
 use Rattle.pdb_reader.proofs.Lines.{atoms_proper, segments_kinded}
-use Rattle.pdb_reader.proofs.Reading.{read_told, cause_of, answer_of, cause_number, cause_written, cause_16}
+use Rattle.pdb_reader.proofs.Reading.{cause_of, answer_of, cause_number, cause_written, cause_16}
 use Rattle.pdb_reader.proofs.Reading.{after_refusal, after_job, front, behind, sited_at}
 use Rattle.pdb_reader.proofs.Reading.{cause_anywhere, size_fits, no_lines}
 use Rattle.std.specs.Prelude.{Result, Ok, Err}
@@ -31,7 +32,7 @@ use Rattle.std.specs.Prelude.{Result, Ok, Err}
 
 -- the numbers of an answer tell it: it is THE answer
 pub answered : {s out out' : List ℕ} {r : Result ℕ Refusal} → Reads s out r out' → read_answer s (length out) ≡ r
-answered h = sym (read_told _ _ h.answer)
+answered h = sym (size_told _ _ h.answer)
 
 -- any two results that the promise allows are equal, in the answer and in every place of the buffer
 pub read_determined : {s out out' out₂ : List ℕ} {r r₂ : Result ℕ Refusal}

@@ -9,7 +9,7 @@ use lib.ListN.{length, take, drop, get_or, length-map}
 use lib.Seq.{take_at, drop_at}
 use borrow.Author.Tests.{ltb-true, ltb-false, lt-ltb, le-ltb}
 use Rattle.lists.proofs.Puts.{put_front}
-use Rattle.job.specs.Refusals.{number_of}
+use Rattle.job.specs.Refusals.{number_of, size_numbers}
 use Rattle.job.specs.declared.Refusal.{Refusal}
 use Rattle.job.specs.declared.Refusal.TheVariants.{PastLimits, NoJobRoom}
 use Rattle.job.proofs.Told.{told, zero_not}
@@ -26,7 +26,7 @@ use Rattle.pdb_file.specs.Faults.{fault_in}
 use Rattle.pdb_file.specs.declared.Fault.{Fault}
 use Rattle.pdb_file.specs.declared.Fault.TheVariants.{LineShort, LineWrong, NoResidue}
 use Rattle.pdb_job.specs.Structure.{to_atom, to_segment, chains_of, residues_of, structure_size, structure_job, structure_of, pdb_job}
-use Rattle.pdb_reader.specs.Call.{past_limits, by_fault, read_checks, read_answer, read_by, buffer_after, read_numbers}
+use Rattle.pdb_reader.specs.Call.{past_limits, by_fault, read_checks, read_answer, read_by, buffer_after}
 use Rattle.pdb_reader.specs.Causes.{Readable, Accepted, Short, Cause}
 use Rattle.pdb_reader.specs.Causes.Cause.{all_right, at_12, at_13, at_14, at_15, at_16}
 use Rattle.pdb_reader.specs.Says.{NotMinusZero, Sited}
@@ -34,13 +34,6 @@ use Rattle.pdb_reader.proofs.Answers.{limited}
 use Rattle.pdb_reader.proofs.Passes.{Proper, every_at}
 use Rattle.pdb_reader.proofs.Lines.{atoms_proper}
 use Rattle.std.specs.Prelude.{Result, Ok, Err, Option, Some, None}
-
--- ---- an answer is told by its numbers: 0 is no refusal's
-pub read_told : (r q : Result ℕ Refusal) → read_numbers r ≡ read_numbers q → r ≡ q
-read_told (Ok n) (Ok m) e = ap (λ (l : List ℕ). Ok (get_or l 1 0)) e
-read_told (Ok n) (Err q) e = absurd (zero_not q (ap (λ (l : List ℕ). get_or l 0 0) e))
-read_told (Err r) (Ok m) e = absurd (zero_not r (sym (ap (λ (l : List ℕ). get_or l 0 0) e)))
-read_told (Err r) (Err q) e = ap Err (told r q e)
 
 -- ---- each answer has its cause, and one cause one answer
 module _ (s : List ℕ) (room : ℕ) where

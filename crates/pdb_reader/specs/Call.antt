@@ -1,7 +1,7 @@
 -- What the reader answers, and what it leaves in the lent buffer, on every input. This file, with what it cites, is what a user has to believe.
 use Rattle.std.specs.Prelude.{ℕ, List, [], ◌∷◌, Bool, ◌||◌, cond, ◌≡◌, length, ltb, Option, Some, None, Result, Ok, Err}
 use Rattle.lists.specs.Put.{put}
-use Rattle.job.specs.Refusals.{refusal_numbers}
+use Rattle.job.specs.Refusals.{size_numbers}
 use Rattle.job.specs.declared.Refusal.{Refusal}
 use Rattle.job.specs.declared.Refusal.TheVariants.{ShortLine, BadNumber, AbsentResidue, PastLimits, NoJobRoom}
 use Rattle.pdb_file.specs.Faults.{fault_in}
@@ -43,13 +43,8 @@ read_by (Err r) s out = out
 unfoldable pub buffer_after : List ℕ → List ℕ → List ℕ
 buffer_after s out = read_by (read_answer s (length out)) s out
 
--- 02 §1 and 01, 'Refusal numbers': the number and the values of each answer: 0 and the job's size, or the refusal's
-abbrev pub read_numbers : Result ℕ Refusal → List ℕ
-read_numbers (Ok n) = 0 ∷ n ∷ 0 ∷ 0 ∷ []
-read_numbers (Err r) = refusal_numbers r
-
 -- THE promise of read_pdb: of a file's bytes s, where the lent buffer held out, it answers r and leaves out'
 pub record Reads (s out : List ℕ) (r : Result ℕ Refusal) (out' : List ℕ) : Type 0 where
-  -- its number and values are those of the answer
-  pub answer : read_numbers r ≡ read_numbers (read_answer s (length out))
+  -- its number and values are those of the answer (02 §1; 01, 'Refusal numbers'): 0 and the job's size, or the refusal's
+  pub answer : size_numbers r ≡ size_numbers (read_answer s (length out))
   pub buffer : out' ≡ buffer_after s out

@@ -11,7 +11,7 @@ use Rattle.protein.specs.Layout.{head_of}
 use Rattle.job.specs.Refusals.{number_of, size_numbers}
 use Rattle.job.specs.declared.Refusal.{Refusal}
 use Rattle.job.specs.declared.Refusal.TheVariants.{NoRoom, NoJobRoom, NoStlRoom}
-use Rattle.pdb_reader.specs.Call.{read_numbers, Reads}
+use Rattle.pdb_reader.specs.Call.{Reads}
 use Rattle.pdb_reader.proofs.Demands.{read_determined, buffer_passes, size_below, needed_below}
 use Rattle.tubes.specs.Tubes.{Tube}
 use Rattle.mesh.specs.Mesh.{vertex_sum, triangle_sum}
@@ -118,11 +118,11 @@ room_fits {s} B =
     rw (M.1.0, M.1.1, M.1.2) (ap (λ (x : List ℕ). 11 ∷ x) (counts_fit (tubes_in s) (list_long_of s (head_of s)) M.0.limit))
 
 -- a job's size, and the one that refusal 16 carries
-pub size_fits : {s out out' : List ℕ} {n : ℕ} → Reads s out (Ok n) out' → words_of (read_numbers (Ok n)) ≡ read_numbers (Ok n)
+pub size_fits : {s out out' : List ℕ} {n : ℕ} → Reads s out (Ok n) out' → words_of (size_numbers (Ok n)) ≡ size_numbers (Ok n)
 size_fits {n = n} R = rw (word_same n (size_below R))
 
 pub needed_fits : {s out out' : List ℕ} {n : ℕ} → Reads s out (Err (NoJobRoom n)) out'
-    → words_of (read_numbers (Err (NoJobRoom n))) ≡ read_numbers (Err (NoJobRoom n))
+    → words_of (size_numbers (Err (NoJobRoom n))) ≡ size_numbers (Err (NoJobRoom n))
 needed_fits {n = n} R = rw (word_same n (needed_below R))
 
 -- the size of an STL file, and the one that refusal 18 carries; the count of a file that was listed, and the one that 18 carries

@@ -2,7 +2,7 @@
 use Rattle.std.specs.Prelude.{ℕ, ◌+◌, ◌%◌, List, [], ◌∷◌, ◌≡◌, get_or, Result}
 use Rattle.job.specs.Refusals.{size_numbers}
 use Rattle.job.specs.declared.Refusal.{Refusal}
-use Rattle.pdb_reader.specs.Call.{read_numbers, Reads}
+use Rattle.pdb_reader.specs.Call.{Reads}
 use Rattle.buffers.specs.declared.Counts.{Counts}
 use Rattle.buffers.specs.Outs.{Outs}
 use Rattle.stl_writer.specs.Call.{WritesStl}
@@ -39,7 +39,7 @@ pub record PlansWords (s : List ℕ) (k : ℕ) (c : Scratch) (a : List ℕ) (c' 
 pub record ReadsWords (s out a out' : List ℕ) : Type 0 where
   pub answer : Result ℕ Refusal
   pub promise : Reads s out answer out'
-  pub words : a ≡ words_of (read_numbers answer)
+  pub words : a ≡ words_of (size_numbers answer)
 
 -- ribbon_write_stl, of the mesh buffers o and the counts c, where the lent bytes held out
 pub record WritesStlWords (o : Outs) (c : Counts) (out a out' : List ℕ) : Type 0 where

@@ -6,7 +6,6 @@ ghost use Rattle.job.specs.Refusals.{refusal_numbers, size_numbers};
 ghost use Rattle.buffers.specs.Outs.{outs, held, holds};
 ghost use Rattle.room.specs.Room.{buffers, scratch};
 ghost use Rattle.promises.specs.Calls.{built_numbers, planned_numbers};
-ghost use Rattle.pdb_reader.specs.Call.{read_numbers};
 ghost use Rattle.stl_reader.specs.Call.{lists};
 ghost use Rattle.tube_call.specs.Part.{PartFor};
 ghost use Rattle.ribbon_c.specs.Words.{word_of, words_of, BuildsWords, PlansWords, ReadsWords, WritesStlWords, ReadsStlWords};
@@ -58,15 +57,6 @@ fn planned_words(a: Planned) -> [u32; 9]
             let w = refusal_words(r);
             [w[0], w[1], w[2], w[3], 0, 0, 0, 0, 0]
         }
-    }
-}
-
-fn read_words(a: Result<usize, Refusal>) -> [u32; 4]
-    ensures { result ≡ words_of (read_numbers a) }
-{
-    match a {
-        Ok(n) => [0, word(n), 0, 0],
-        Err(r) => refusal_words(r),
     }
 }
 
@@ -141,7 +131,7 @@ pub extern "C" fn ribbon_read_pdb(file: &[u8], job: &mut [u8], answer: &mut [u32
     ensures { ReadsWords file.now job.old answer.new job.new }
 {
     let a = pdb_reader::read_pdb(file, job);
-    *answer = read_words(a);
+    *answer = size_words(a);
 }
 
 // The number (0: a file) and the file's size, or a refusal's number and what it carries, go to answer. The mesh buffers are only read.
