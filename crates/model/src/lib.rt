@@ -9,9 +9,8 @@ ghost use Rattle.facets.specs.Facets.{Drawn};
 ghost use Rattle.model.specs.Ready.{Ready};
 
 use buffers::Counts;
-use job::{Checked, Refusal};
+use job::Refusal;
 use pdb_reader::Read;
-use promises::Built;
 use protein::Head;
 use std::io::Stdout;
 use words::Else;
@@ -96,7 +95,7 @@ fn refuse_job(file: &[u8], job: &[u8], r: Refusal, more: bool) -> Made {
         return Made::Short;
     }
     let a = job::check_job(job);
-    if let Checked::Fine(h) = a {
+    if let Ok(h) = a {
         tell_file(file, job, h);
     }
     pdb_notes::tell_refused(file, r);
@@ -122,8 +121,8 @@ fn tell_model(file: &[u8], job: &[u8], h: Head, c: Counts, tubes: &[u32], boxes:
 fn tell(file: &[u8], job: &[u8], c: Counts, tubes: &[u32], boxes: &[f32], w: Wish) {
     let a = job::check_job(job);
     match a {
-        Checked::Refused(_) => {}
-        Checked::Fine(h) => tell_model(file, job, h, c, tubes, boxes, w),
+        Err(_) => {}
+        Ok(h) => tell_model(file, job, h, c, tubes, boxes, w),
     }
 }
 
@@ -183,8 +182,8 @@ fn build_model(
         job, positions, normals, tags, triangles, tubes, boxes, words, floats,
     );
     match a {
-        Built::NoMesh(r) => refuse_job(file, job, r, w.more),
-        Built::Mesh(c) => finish(file, job, positions, triangles, tubes, boxes, c, block, w),
+        Err(r) => refuse_job(file, job, r, w.more),
+        Ok(c) => finish(file, job, positions, triangles, tubes, boxes, c, block, w),
     }
 }
 
