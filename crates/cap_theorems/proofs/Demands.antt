@@ -22,7 +22,7 @@ use Rattle.mesh.specs.Mesh.{size_of, tube_normals, vertex_sum}
 use Rattle.buffers.specs.declared.Counts.{Counts}
 use Rattle.shares.specs.declared.Shares.{Shares}
 use Rattle.room.specs.Room.{Buffers}
-use Rattle.promises.specs.declared.Built.TheVariants.{Mesh}
+use Rattle.std.specs.Prelude.{Ok}
 use Rattle.promises.specs.Calls.{Builds}
 use Rattle.promises.specs.Meshes.{protein_in, tubes_in, TubeAt, vertices_of}
 use Rattle.party_promises.specs.Calls.{BuildsShare}
@@ -35,13 +35,13 @@ use Rattle.cap_theorems.proofs.Ends as ends
 -- ==== 'No cap normal of zero': in every mesh that is handed out, the normals at the centres of each tube's two caps
 -- have three finite components, of which one is not 0.
 
-pub caps_lit : {s : List ℕ} {b b' : Buffers} {c : Counts} {k : ℕ} → Builds s b (Mesh c) b' → k < c.tubes
+pub caps_lit : {s : List ℕ} {b b' : Buffers} {c : Counts} {k : ℕ} → Builds s b (Ok c) b' → k < c.tubes
     → Lit (normal_at b'.outs (start_cap b'.outs k)) × Lit (normal_at b'.outs (end_cap b'.outs k))
 caps_lit B h = ends.lit _ _ _ _ _ B h
 
 -- so in a party's share
 pub share_caps_lit : {s q : List ℕ} {m o : Shares} {b b' : Buffers} {c : Counts} {k : ℕ} → AllBytes s
-    → BuildsShare s q m o b (Mesh c) b' → k < c.tubes
+    → BuildsShare s q m o b (Ok c) b' → k < c.tubes
     → Lit (normal_at (in_share m b').outs (start_cap (in_share m b').outs k))
     × Lit (normal_at (in_share m b').outs (end_cap (in_share m b').outs k))
 share_caps_lit y B h = caps_lit (party.mesh_as_job y B) h
@@ -55,7 +55,7 @@ no_direction a = directions.nowhere a
 
 -- so of the chord 'when the last two spline points coincide'
 pub coincide : {s : List ℕ} {b b' : Buffers} {c : Counts} (k : ℕ) {u : Tube}
-    → Builds s b (Mesh c) b' → TubeAt (tubes_in s) k u
+    → Builds s b (Ok c) b' → TubeAt (tubes_in s) k u
     → vec_at (points_in (protein_in s) u) (size_of u - 1) ≡ vec_at (points_in (protein_in s) u) (size_of u - 2)
     → direction_of (last_chord (protein_in s) u) ≡ None
 coincide k B at e = ends.same_points _ _ _ _ k B _ at e
@@ -63,7 +63,7 @@ coincide k B at e = ends.same_points _ _ _ _ k B _ at e
 -- ==== 'an end cap then takes the last sample's tangent'
 
 pub cap_tangent : {s : List ℕ} {b b' : Buffers} {c : Counts} (k : ℕ) {u : Tube}
-    → Builds s b (Mesh c) b' → TubeAt (tubes_in s) k u → direction_of (last_chord (protein_in s) u) ≡ None
+    → Builds s b (Ok c) b' → TubeAt (tubes_in s) k u → direction_of (last_chord (protein_in s) u) ≡ None
     → normal_at b'.outs (end_cap b'.outs k) ≡ last_tangent (protein_in s) u
 cap_tangent k B at e = ends.tangent _ _ _ _ k B _ at e
 
@@ -76,7 +76,7 @@ last_sample P u = caps.last_tangent_lem (points_in P u) (guides_in P u) (size_of
 -- normals of the tube are the Rust's
 
 pub cap_chord : {s : List ℕ} {b b' : Buffers} {c : Counts} (k : ℕ) {u : Tube} {v : Vec3}
-    → Builds s b (Mesh c) b' → TubeAt (tubes_in s) k u → direction_of (last_chord (protein_in s) u) ≡ Some v
+    → Builds s b (Ok c) b' → TubeAt (tubes_in s) k u → direction_of (last_chord (protein_in s) u) ≡ Some v
     → (normal_at b'.outs (end_cap b'.outs k) ≡ v) × (normalised (last_chord (protein_in s) u) ≡ v)
 cap_chord k B at e = ends.chord_taken _ _ _ _ k B _ at _ e
 
@@ -86,7 +86,7 @@ all_the_rusts P u v e = ends.as_rust P u v e
 
 -- and where it has none, all but the last three
 pub but_three : {s : List ℕ} {b b' : Buffers} {c : Counts} (k : ℕ) {u : Tube}
-    → Builds s b (Mesh c) b' → TubeAt (tubes_in s) k u
+    → Builds s b (Ok c) b' → TubeAt (tubes_in s) k u
     → (length (rust_normals (protein_in s) u) ≡ 3 * vertices_of u)
     × (take (3 * (vertices_of u - 1)) (drop (3 * vertex_sum (take k (tubes_in s))) b'.outs.normals)
     ≡ take (3 * (vertices_of u - 1)) (rust_normals (protein_in s) u))

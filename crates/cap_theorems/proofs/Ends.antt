@@ -27,7 +27,7 @@ use Rattle.mesh.specs.Mesh.{size_of, kind_of, alphas_of, oxygens_of, spots, air_
 use Rattle.buffers.specs.Outs.{Outs}
 use Rattle.buffers.specs.declared.Counts.{Counts}
 use Rattle.room.specs.Room.{Buffers}
-use Rattle.promises.specs.declared.Built.TheVariants.{Mesh}
+use Rattle.std.specs.Prelude.{Ok}
 use Rattle.promises.specs.Calls.{Builds}
 use Rattle.promises.specs.Meshes.{protein_in, tubes_in, TubeAt, TubeStands, vertices_of}
 use Rattle.promises.proofs.Tubes.{length_alphas, length_normals}
@@ -122,7 +122,7 @@ module _ (P : Protein) (u : Tube) (k v t : ℕ) (o : Outs) (S : TubeStands P u k
       ∙ vec_part o.normals (tube_normals P u) v (vertices_of u) 8 S.normals.there (omega arith)
       ∙ ap (λ (l : List Float). vec_at l 8) (normals_are P u) ∙ start_in P u (cap_of P u)
 
-module _ (s : List ℕ) (b b' : Buffers) (c : Counts) (k : ℕ) (B : Builds s b (Mesh c) b') where
+module _ (s : List ℕ) (b b' : Buffers) (c : Counts) (k : ℕ) (B : Builds s b (Ok c) b') where
   module _ (u : Tube) (at : TubeAt (tubes_in s) k u) where
     stands : TubeStands (protein_in s) u k (vertex_sum (take k (tubes_in s))) (triangle_sum (take k (tubes_in s))) b'.outs
     stands = calls.stands s b b' c k u B at

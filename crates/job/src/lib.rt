@@ -1,14 +1,14 @@
 // Checks 1 to 8 of a job's bytes, and the refusals of every call (01, 'Refusal numbers').
 #![tactic(auto)]
 
-ghost use Rattle.std.specs.Prelude.{◌≡◌, not, ◌+◌, ◌≤◌, ◌<◌, length};
+ghost use Rattle.std.specs.Prelude.{◌≡◌, ℕ, true, false, not, ◌+◌, ◌≤◌, ◌<◌, length, MatchOption};
 ghost use Rattle.lists.specs.Search.{first};
 ghost use Rattle.numbers.specs.Bytes.{u64_at};
 ghost use Rattle.job.specs.Coordinate.{within};
 ghost use Rattle.job.specs.Refusals.{refusal_numbers};
 ghost use Rattle.protein.specs.Layout.{Whole};
 ghost use Rattle.protein.specs.Job.{segments_of};
-ghost use Rattle.job.specs.Check.{sizes, contents, check, unshared, check_shared, stray, bad_visibility, bad_kind, bad_atom, bad_coordinate};
+ghost use Rattle.job.specs.Check.{found, sizes, contents, check, unshared, check_shared, stray, bad_visibility, bad_kind, bad_atom, bad_coordinate};
 
 use numbers::{u16_at, u32_at};
 use protein::Head;
@@ -40,13 +40,6 @@ pub enum Refusal {
     BadShares,
 }
 
-// What the checks of a job's bytes answer: its counts, or a refusal.
-#[derive(Drop)]
-pub enum Checked {
-    Fine(Head),
-    Refused(Refusal),
-}
-
 // A refusal's number, and the three values that it carries at most, 0 for those that it has not.
 pub fn refusal_numbers(r: Refusal) -> [usize; 4]
     ensures { result ≡ refusal_numbers r }
@@ -76,33 +69,33 @@ pub fn refusal_numbers(r: Refusal) -> [usize; 4]
 }
 
 // Checks 1 to 4.
-pub fn check_sizes(b: &[u8]) -> Checked
+pub fn check_sizes(b: &[u8]) -> Result<Head, Refusal>
     ensures { result ≡ sizes b.now }
 {
     if b.len() < 13 {
-        return Checked::Refused(Refusal::BadLength);
+        return Err(Refusal::BadLength);
     }
     if u32_at(b, 0) != b.len() - 4 {
-        return Checked::Refused(Refusal::BadLength);
+        return Err(Refusal::BadLength);
     }
     let v = b[4];
     if v != 1 {
-        return Checked::Refused(Refusal::BadVersion(v));
+        return Err(Refusal::BadVersion(v));
     }
     let chains = u16_at(b, 5);
     let residues = u16_at(b, 7);
     let segments = u16_at(b, 9);
     let atoms = u16_at(b, 11);
     if 255 < chains {
-        return Checked::Refused(Refusal::BadCounts);
+        return Err(Refusal::BadCounts);
     }
     if 16384 < residues {
-        return Checked::Refused(Refusal::BadCounts);
+        return Err(Refusal::BadCounts);
     }
     if b.len() != 13 + chains + 9 * segments + 33 * atoms {
-        return Checked::Refused(Refusal::BadSize);
+        return Err(Refusal::BadSize);
     }
-    Checked::Fine(Head {
+    Ok(Head {
         chains: chains as u16,
         residues: residues as u16,
         segments: segments as u16,
@@ -110,30 +103,31 @@ pub fn check_sizes(b: &[u8]) -> Checked
     })
 }
 
-// The searches answer one more than the first index at fault, or 0.
-pub fn find_visibility(b: &[u8], h: Head) -> usize
-    requires { Whole b.now h }
-    ensures { result ≡ first (bad_visibility b.now h) h.chains }
+// The first number below n at fault, where there is one.
+fn find_fault<F: Fn(usize) -> bool>(n: usize, is_fault: F) -> Option<usize>
+    requires { (i : ℕ) → i < n → F.pre is_fault i }
+    ensures { MatchOption result ((k : ℕ) → k < n → F.post is_fault k false)
+        (λ i. (i < n) × F.post is_fault i true × ((k : ℕ) → k < i → F.post is_fault k false)) }
 {
-    let n = h.chains as usize;
     for i in 0..n {
-        if 1 < b[13 + i] {
-            return i + 1;
+        if is_fault(i) {
+            return Some(i);
         }
     }
-    0
+    None
 }
 
-pub fn find_kind(q: &[u8]) -> usize
-    ensures { result ≡ first (bad_kind q.now) (segments_of q.now).count }
+pub fn find_visibility(b: &[u8], h: Head) -> Option<usize>
+    requires { Whole b.now h }
+    ensures { result ≡ found (first (bad_visibility b.now h) h.chains) }
 {
-    let n = q.len() / 9;
-    for i in 0..n {
-        if 2 < protein::kind(q, i) {
-            return i + 1;
-        }
-    }
-    0
+    find_fault(h.chains as usize, |c| 1 < b[13 + c])
+}
+
+pub fn find_kind(q: &[u8]) -> Option<usize>
+    ensures { result ≡ found (first (bad_kind q.now) (segments_of q.now).count) }
+{
+    find_fault(q.len() / 9, |i| 2 < protein::kind(q, i))
 }
 
 pub fn is_stray(limit: usize, v: usize) -> bool
@@ -158,17 +152,11 @@ pub fn is_bad_atom(b: &[u8], h: Head, a: usize) -> bool
     is_stray(h.chains as usize, protein::chain(b, h, a))
 }
 
-pub fn find_atom(b: &[u8], h: Head) -> usize
+pub fn find_atom(b: &[u8], h: Head) -> Option<usize>
     requires { Whole b.now h }
-    ensures { result ≡ first (bad_atom b.now h) h.atoms }
+    ensures { result ≡ found (first (bad_atom b.now h) h.atoms) }
 {
-    let n = h.atoms as usize;
-    for i in 0..n {
-        if is_bad_atom(b, h, i) {
-            return i + 1;
-        }
-    }
-    0
+    find_fault(h.atoms as usize, |a| is_bad_atom(b, h, a))
 }
 
 // Check 8 of the coordinate at a place, on its bits. The low half of the limit's bits is 0, so the high half nearly always decides.
@@ -201,51 +189,38 @@ pub fn is_bad_coordinate(b: &[u8], h: Head, a: usize) -> bool
     is_outside(b, at + 25)
 }
 
-pub fn find_coordinate(b: &[u8], h: Head) -> usize
+pub fn find_coordinate(b: &[u8], h: Head) -> Option<usize>
     requires { Whole b.now h }
-    ensures { result ≡ first (bad_coordinate b.now h) h.atoms }
+    ensures { result ≡ found (first (bad_coordinate b.now h) h.atoms) }
 {
-    let n = h.atoms as usize;
-    for i in 0..n {
-        if is_bad_coordinate(b, h, i) {
-            return i + 1;
-        }
-    }
-    0
+    find_fault(h.atoms as usize, |a| is_bad_coordinate(b, h, a))
 }
 
 // Checks 5 to 8, with the segment records `q`.
-pub fn check_contents(b: &[u8], h: Head, q: &[u8]) -> Checked
+pub fn check_contents(b: &[u8], h: Head, q: &[u8]) -> Result<Head, Refusal>
     requires { Whole b.now h }
     ensures { result ≡ contents b.now h q.now }
 {
-    let v = find_visibility(b, h);
-    if 0 < v {
-        return Checked::Refused(Refusal::BadVisibility(v - 1));
+    if let Some(c) = find_visibility(b, h) {
+        return Err(Refusal::BadVisibility(c));
     }
-    let k = find_kind(q);
-    if 0 < k {
-        return Checked::Refused(Refusal::BadKind(k - 1));
+    if let Some(i) = find_kind(q) {
+        return Err(Refusal::BadKind(i));
     }
-    let a = find_atom(b, h);
-    if 0 < a {
-        return Checked::Refused(Refusal::BadAtom(a - 1));
+    if let Some(a) = find_atom(b, h) {
+        return Err(Refusal::BadAtom(a));
     }
-    let x = find_coordinate(b, h);
-    if 0 < x {
-        return Checked::Refused(Refusal::BadCoordinate(x - 1));
+    if let Some(a) = find_coordinate(b, h) {
+        return Err(Refusal::BadCoordinate(a));
     }
-    Checked::Fine(h)
+    Ok(h)
 }
 
-pub fn check_job(b: &[u8]) -> Checked
+pub fn check_job(b: &[u8]) -> Result<Head, Refusal>
     ensures { result ≡ check b.now }
 {
-    let s = check_sizes(b);
-    match s {
-        Checked::Refused(r) => Checked::Refused(r),
-        Checked::Fine(h) => check_contents(b, h, protein::records(b, h)),
-    }
+    let h = check_sizes(b)?;
+    check_contents(b, h, protein::records(b, h))
 }
 
 // Check 4 of 02 §5: whether a job has segments of its own, or `n` bytes are not whole records, or are too many of them.
@@ -262,17 +237,12 @@ pub fn is_unshared(h: Head, n: usize) -> bool
 }
 
 // Checks 1 to 8 of a shared job with one party's records `q`.
-pub fn check_shared(b: &[u8], q: &[u8]) -> Checked
+pub fn check_shared(b: &[u8], q: &[u8]) -> Result<Head, Refusal>
     ensures { result ≡ check_shared b.now q.now }
 {
-    let s = check_sizes(b);
-    match s {
-        Checked::Refused(r) => Checked::Refused(r),
-        Checked::Fine(h) => {
-            if is_unshared(h, q.len()) {
-                return Checked::Refused(Refusal::BadSize);
-            }
-            check_contents(b, h, q)
-        }
+    let h = check_sizes(b)?;
+    if is_unshared(h, q.len()) {
+        return Err(Refusal::BadSize);
     }
+    check_contents(b, h, q)
 }

@@ -14,7 +14,7 @@ use Rattle.protein.specs.Layout.{head_of, job_size, none}
 use Rattle.protein.specs.Job.{segments_of}
 use Rattle.job.specs.Check.{sizes, contents, check, stray, bad_visibility, bad_kind, bad_atom, bad_coordinate}
 use Rattle.protein.specs.declared.Head.{Head}
-use Rattle.job.specs.declared.Checked.TheVariants.{Fine}
+use Rattle.std.specs.Prelude.{Ok}
 use Rattle.job.proofs.Laws.{sizes_fine, check_contents_of}
 use Rattle.lists.proofs.Searches.{first_none}
 use Rattle.job_writer.specs.Job.{flat, segment_bytes, job_bytes, atom_bytes}
@@ -38,7 +38,7 @@ nth (x ∷ l) (suc k) h =
 
 -- ---- the ladder of checks, for any bytes
 contents_fine : (s : List ℕ) (h : Head) (q : List ℕ) → ((k : ℕ) → k < h.chains → bad_visibility s h k ≡ false) → ((k : ℕ) → k < (segments_of q).count → bad_kind q k ≡ false)
-    → ((k : ℕ) → k < h.atoms → bad_atom s h k ≡ false) → ((k : ℕ) → k < h.atoms → bad_coordinate s h k ≡ false) → contents s h q ≡ Fine h
+    → ((k : ℕ) → k < h.atoms → bad_atom s h k ≡ false) → ((k : ℕ) → k < h.atoms → bad_coordinate s h k ≡ false) → contents s h q ≡ Ok h
 unfolding contents
 contents_fine s h q a b c d =
     rw (
@@ -88,13 +88,13 @@ module _ (c r : ℕ) (gs : List JobSegment) (ats : List JobAtom) (hc : c ≤ 255
       let e₄ : u16_at job 11 ≡ length ats = h.atoms ∙ mod-eq_of_lt (omega arith) in
       rw (e₁, e₂, e₃, e₄)
 
-  sizes_are : sizes job ≡ Fine written
+  sizes_are : sizes job ≡ Ok written
   sizes_are =
       let h = head_read 1 33 atom_bytes wide_atom c r gs ats in
       let f : u32_at job 0 ≡ length job - 4 = h.following ∙ mod-eq_of_lt (omega arith) ∙ omega (arith, size) in
       sizes_fine job (omega (arith, size)) f h.version_is (subst (λ (x : Head). x.chains ≤ 255) (sym head_is) hc) (subst (λ (x : Head). x.residues ≤ 16384) (sym head_is) hr)
       (size ∙ ap job_size (sym head_is))
-      ∙ ap Fine head_is
+      ∙ ap Ok head_is
 
   visible : (k : ℕ) → k < c → bad_visibility job written k ≡ false
   unfolding bad_visibility
@@ -135,7 +135,7 @@ module _ (c r : ℕ) (gs : List JobSegment) (ats : List JobAtom) (hc : c ≤ 255
       let p = rights k n.item n.tail n.is in
       rw (in_range n.item.x (u64_at job (i + 9)) e.x p.x, in_range n.item.y (u64_at job (i + 17)) e.y p.y, in_range n.item.z (u64_at job (i + 25)) e.z p.z)
 
-  pub written_fine : check (job_bytes 1 33 atom_bytes c r gs ats) ≡ Fine written
+  pub written_fine : check (job_bytes 1 33 atom_bytes c r gs ats) ≡ Ok written
   written_fine =
       check_contents_of job written sizes_are ∙ ap (contents job written) (records_are 1 33 atom_bytes wide_atom c r gs ats)
       ∙ contents_fine job written (flat segment_bytes gs) visible kind atom coordinate

@@ -20,8 +20,7 @@ use Rattle.protein.specs.Protein.{protein_of}
 use Rattle.job.specs.Check.{sizes, shared_sizes, contents, check, check_shared, bad_visibility, bad_kind, bad_atom, bad_coordinate, or_first}
 use Rattle.job.specs.declared.Refusal.{Refusal}
 use Rattle.job.specs.declared.Refusal.TheVariants.{BadVisibility, BadKind, BadAtom, BadCoordinate}
-use Rattle.job.specs.declared.Checked.{Checked}
-use Rattle.job.specs.declared.Checked.TheVariants.{Fine, Refused}
+use Rattle.std.specs.Prelude.{Result, Ok, Err}
 use Rattle.job.proofs.Accepted.{shared_parts}
 use Rattle.job.proofs.Laws.{sizes_fields, sizes_fine, shared_passes, shared_sizes_lem, shared_contents, check_contents_of}
 use Rattle.joined.specs.Joined.{with_records, with_segments, joined_answer}
@@ -43,12 +42,12 @@ job_same J K a r v s o e c = λ i. record {
 }
 
 -- a rung of the ladder of checks
-rung : (q : List ℕ) (v w : ℕ) (f : ℕ → Refusal) (x y : Checked) → v ≡ w → x ≡ joined_answer q y → or_first v f x ≡ joined_answer q (or_first w f y)
+rung : (q : List ℕ) (v w : ℕ) (f : ℕ → Refusal) (x y : Result Head Refusal) → v ≡ w → x ≡ joined_answer q y → or_first v f x ≡ joined_answer q (or_first w f y)
 rung q v zero f x y e h = rw e h
 rung q v (suc w) f x y e h = rw e
 
 -- ---- of a shared job that passes 1 to 4 with the records
-module _ (s q : List ℕ) (h : Head) (e : shared_sizes s (length q) ≡ Fine h) where
+module _ (s q : List ℕ) (h : Head) (e : shared_sizes s (length q) ≡ Ok h) where
   abbrev t : List ℕ
   t = with_records s q
 
@@ -149,11 +148,11 @@ module _ (s q : List ℕ) (h : Head) (e : shared_sizes s (length q) ≡ Fine h) 
       rung q _ _ BadVisibility _ _ (first_same (bad_visibility t h') (bad_visibility s h) h.chains visibility_same)
       (rung q (first (bad_kind q) (segments_of q).count) (first (bad_kind q) (segments_of q).count) BadKind _ _ refl
       (rung q _ _ BadAtom _ _ (first_same (bad_atom t h') (bad_atom s h) h.atoms (λ a l. atom_same a))
-      (rung q _ _ BadCoordinate (Fine h') (Fine h) (first_same (bad_coordinate t h') (bad_coordinate s h) h.atoms (λ a l. coordinate_same a)) refl)))
+      (rung q _ _ BadCoordinate (Ok h') (Ok h) (first_same (bad_coordinate t h') (bad_coordinate s h) h.atoms (λ a l. coordinate_same a)) refl)))
 
   -- ---- its checks, where A is a number of two bytes (a length field of four bytes counts no more): so it is in a list of bytes, `few_atoms` below
   module _ (a : h.atoms < 65536) where
-    pub joined_sizes : sizes (with_records s q) ≡ Fine (with_segments q h)
+    pub joined_sizes : sizes (with_records s q) ≡ Ok (with_segments q h)
     joined_sizes =
         let f = sizes_fields s h (shared_passes s (length q) h e).0 in
         let n = joined_length s q long in
@@ -163,7 +162,7 @@ module _ (s q : List ℕ) (h : Head) (e : shared_sizes s (length q) ≡ Fine h) 
         let z : length t ≡ job_size h' = omega (arith, whole.size, none, nines) in
         sizes_fine t (omega (arith, whole.size)) l v (subst (λ (x : Head). x.chains ≤ 255) (sym joined_head_lem) whole.few_chains)
         (subst (λ (x : Head). x.residues ≤ 16384) (sym joined_head_lem) whole.few_residues) (z ∙ ap job_size (sym joined_head_lem))
-        ∙ ap Fine joined_head_lem
+        ∙ ap Ok joined_head_lem
 
     pub joined_check : check (with_records s q) ≡ joined_answer q (check_shared s q)
     joined_check =
@@ -171,25 +170,25 @@ module _ (s q : List ℕ) (h : Head) (e : shared_sizes s (length q) ≡ Fine h) 
         check_contents_of t h' joined_sizes ∙ ap (contents t h') joined_records ∙ joined_contents ∙ ap (joined_answer q) (sym (shared_contents s q h p.0 p.1))
 
     -- so it is refused exactly where the shared job with those records is, with the same number and values, and passes exactly where that does
-    pub joined_refused : (r : Refusal) → check_shared s q ≡ Refused r → check (with_records s q) ≡ Refused r
+    pub joined_refused : (r : Refusal) → check_shared s q ≡ Err r → check (with_records s q) ≡ Err r
     joined_refused r x = joined_check ∙ ap (joined_answer q) x
 
-    pub refused_joined : (r : Refusal) → check (with_records s q) ≡ Refused r → check_shared s q ≡ Refused r
+    pub refused_joined : (r : Refusal) → check (with_records s q) ≡ Err r → check_shared s q ≡ Err r
     refused_joined r x = back (check_shared s q) (sym joined_check ∙ x)
       where
-        back : (y : Checked) → joined_answer q y ≡ Refused r → y ≡ Refused r
-        back (Refused k) z = z
-        back (Fine k) z = let n : ◌≡◌ {A = ℕ} 0 1 = cc in absurd (omega arith)
+        back : (y : Result Head Refusal) → joined_answer q y ≡ Err r → y ≡ Err r
+        back (Err k) z = z
+        back (Ok k) z = let n : ◌≡◌ {A = ℕ} 0 1 = cc in absurd (omega arith)
 
-    pub joined_fine : check_shared s q ≡ Fine h → check (with_records s q) ≡ Fine (with_segments q h)
+    pub joined_fine : check_shared s q ≡ Ok h → check (with_records s q) ≡ Ok (with_segments q h)
     joined_fine x = joined_check ∙ ap (joined_answer q) x
 
-    pub fine_joined : (k : Head) → check (with_records s q) ≡ Fine k → check_shared s q ≡ Fine h
+    pub fine_joined : (k : Head) → check (with_records s q) ≡ Ok k → check_shared s q ≡ Ok h
     fine_joined k x = go (check_shared s q) refl (sym joined_check ∙ x)
       where
-        go : (y : Checked) → check_shared s q ≡ y → joined_answer q y ≡ Fine k → check_shared s q ≡ Fine h
-        go (Refused r) z w = let n : ◌≡◌ {A = ℕ} 0 1 = cc in absurd (omega arith)
-        go (Fine j) z w = let f : Fine j ≡ Fine h = sym (shared_parts s q j z).0 ∙ e in z ∙ f
+        go : (y : Result Head Refusal) → check_shared s q ≡ y → joined_answer q y ≡ Ok k → check_shared s q ≡ Ok h
+        go (Err r) z w = let n : ◌≡◌ {A = ℕ} 0 1 = cc in absurd (omega arith)
+        go (Ok j) z w = let f : ◌≡◌ {A = Result Head Refusal} (Ok j) (Ok h) = sym (shared_parts s q j z).0 ∙ e in z ∙ f
 
   -- of bytes
   pub few_atoms : ((i : ℕ) → get_or s i 0 < 256) → h.atoms < 65536

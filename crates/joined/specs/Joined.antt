@@ -1,11 +1,10 @@
 -- 02 §5: a call 'answers as the job with those records would'. The bytes of that job, of a shared job and one party's records.
-use Rattle.std.specs.Prelude.{ℕ, ◌+◌, ◌-◌, List, ◌++◌, length, take, drop}
+use Rattle.std.specs.Prelude.{ℕ, ◌+◌, ◌-◌, List, ◌++◌, length, take, drop, Result, Ok, Err}
 use Rattle.numbers.specs.Bytes.{u16, u32}
 use Rattle.protein.specs.declared.Head.{Head}
 use Rattle.protein.specs.Layout.{head_of}
 use Rattle.protein.specs.Job.{segments_of}
-use Rattle.job.specs.declared.Checked.{Checked}
-use Rattle.job.specs.declared.Checked.TheVariants.{Fine, Refused}
+use Rattle.job.specs.declared.Refusal.{Refusal}
 
 -- its head and its chains' bytes: those of the shared job s, but for the length field, which counts the records q too, and S, which is their number. The bytes
 -- from 4 on are the version, C and R, those from 11 on A and the C bytes of the chains
@@ -21,6 +20,6 @@ abbrev pub with_segments : List ℕ → Head → Head
 with_segments q h = record { chains = h.chains; residues = h.residues; segments = (segments_of q).count; atoms = h.atoms }
 
 -- what its checks answer, by what those of the shared job with the records do: the same refusal, or those counts
-abbrev pub joined_answer : List ℕ → Checked → Checked
-joined_answer q (Fine h) = Fine (with_segments q h)
-joined_answer q (Refused r) = Refused r
+abbrev pub joined_answer : List ℕ → Result Head Refusal → Result Head Refusal
+joined_answer q (Ok h) = Ok (with_segments q h)
+joined_answer q (Err r) = Err r

@@ -10,8 +10,8 @@ use lib.Seq.{get_or-take}
 use Rattle.buffers.specs.declared.Counts.{Counts}
 use Rattle.buffers.specs.Outs.{Outs}
 use Rattle.room.specs.Room.{Buffers}
-use Rattle.promises.specs.declared.Built.{Built}
-use Rattle.promises.specs.declared.Built.TheVariants.{Mesh}
+use Rattle.std.specs.Prelude.{Result, Ok}
+use Rattle.job.specs.declared.Refusal.{Refusal}
 use Rattle.promises.specs.Calls.{Builds}
 use Rattle.consistency.specs.Consistent.{consistent}
 use Rattle.consistency.proofs.Means.{consistent_means, corner_below, triangle_limit}
@@ -34,9 +34,9 @@ consistent_ready o c e =
     }
 
 -- every mesh that build hands out
-pub mesh_ready : {s : List ℕ} {b b' : Buffers} {r : Built} {c : Counts} → Builds s b r b' → r ≡ Mesh c
+pub mesh_ready : {s : List ℕ} {b b' : Buffers} {r : Result Counts Refusal} {c : Counts} → Builds s b r b' → r ≡ Ok c
     → Ready b'.outs.positions b'.outs.triangles b'.outs.tubes b'.outs.boxes c
-mesh_ready {s} {b} {b'} {r} {c} B e = consistent_ready b'.outs c (built_consistent (subst (λ (r : Built). Builds s b r b') e B))
+mesh_ready {s} {b} {b'} {r} {c} B e = consistent_ready b'.outs c (built_consistent (subst (λ (r : Result Counts Refusal). Builds s b r b') e B))
 
 -- corners that positions have, others that are no fewer have too
 pub drawn_still : (p q : List Float) (l : List ℕ) → length p ≤ length q → Drawn p l → Drawn q l

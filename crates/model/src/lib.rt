@@ -10,8 +10,7 @@ ghost use Rattle.model.specs.Ready.{Ready};
 
 use buffers::Counts;
 use facets::Drawing;
-use job::{Checked, Refusal};
-use promises::Built;
+use job::Refusal;
 use protein::Head;
 use std::io::Stdout;
 use words::Else;
@@ -91,7 +90,7 @@ fn refuse_job(file: &[u8], job: &[u8], r: Refusal, more: bool) -> Made {
         return Made::Short;
     }
     let a = job::check_job(job);
-    if let Checked::Fine(h) = a {
+    if let Ok(h) = a {
         tell_file(file, job, h);
     }
     pdb_notes::tell_refused(file, r);
@@ -117,8 +116,8 @@ fn tell_model(file: &[u8], job: &[u8], h: Head, c: Counts, tubes: &[u32], boxes:
 fn tell(file: &[u8], job: &[u8], c: Counts, tubes: &[u32], boxes: &[f32], w: Wish) {
     let a = job::check_job(job);
     match a {
-        Checked::Refused(_) => {}
-        Checked::Fine(h) => tell_model(file, job, h, c, tubes, boxes, w),
+        Err(_) => {}
+        Ok(h) => tell_model(file, job, h, c, tubes, boxes, w),
     }
 }
 
@@ -182,8 +181,8 @@ fn build_model(
         job, positions, normals, tags, triangles, tubes, boxes, words, floats,
     );
     match a {
-        Built::NoMesh(r) => refuse_job(file, job, r, w.more),
-        Built::Mesh(c) => finish(file, job, positions, triangles, tubes, boxes, c, block, w),
+        Err(r) => refuse_job(file, job, r, w.more),
+        Ok(c) => finish(file, job, positions, triangles, tubes, boxes, c, block, w),
     }
 }
 

@@ -15,14 +15,14 @@ use Rattle.job.proofs.Laws.{check_whole}
 use Rattle.tubes.specs.Tubes.{Tube}
 use Rattle.mesh.specs.Mesh.{size_of, vertex_sum}
 use Rattle.room.specs.Room.{Buffers}
-use Rattle.promises.specs.declared.Built.{Built}
-use Rattle.promises.specs.declared.Built.TheVariants.{Mesh, NoMesh}
+use Rattle.std.specs.Prelude.{Result, Ok, Err}
+use Rattle.buffers.specs.declared.Counts.{Counts}
 use Rattle.promises.specs.Calls.{counts_of, Builds}
 use Rattle.promises.specs.Meshes.{tubes_in, Passes, Enough, RoomFor}
 use Rattle.promises.proofs.Told.{built_is}
 use Rattle.promises.proofs.Numbered.{checks_numbered}
 use Rattle.promises.proofs.Tubes.{AllLong, list_long_of, long_sums}
-use Rattle.promises.proofs.Checks.{Exit, early, nine, ten, eleven, mesh, exit, not_short, room_not, mesh_or_not, same_refusal}
+use Rattle.promises.proofs.Checks.{Exit, early, nine, ten, eleven, mesh, exit, not_short, room_not, ok_or_not, same_refusal}
 use Rattle.promises.proofs.Demands.{past_checks, only_for_room}
 use Rattle.pdb_reader.specs.Causes.{Readable, Cause}
 use Rattle.pdb_reader.specs.Causes.Cause.{at_12, at_13, at_14, at_15, at_16}
@@ -60,14 +60,14 @@ module _ (b : Buffers) (L : LargeRoom b) where
     room_always : vertex_sum (tubes_in s) ≤ 1048576 → RoomFor b.outs (counts_of (tubes_in s))
     room_always v = room_within (tubes_in s) (list_long_of s (head_of s)) v
 
-    pub large_built : {b' : Buffers} {r : Built} → Passes s → vertex_sum (tubes_in s) ≤ 1048576 → Builds s b r b' → r ≡ Mesh (counts_of (tubes_in s))
+    pub large_built : {b' : Buffers} {r : Result Counts Refusal} → Passes s → vertex_sum (tubes_in s) ≤ 1048576 → Builds s b r b' → r ≡ Ok (counts_of (tubes_in s))
     large_built p v B = only_for_room (record { passes = p; scratch = enough_always p; limit = v }) B (room_always v)
 
     -- what is left of the refusals: those of the job itself, and 10
-    pub large_refused : {b' : Buffers} {q : Refusal} → Builds s b (NoMesh q) b' → (number_of q ≤ 8) ⊎ ((q ≡ TooManyVertices) × (1048576 < vertex_sum (tubes_in s)))
-    large_refused {q = q} B = go (exit s b (NoMesh q) (built_is B))
+    pub large_refused : {b' : Buffers} {q : Refusal} → Builds s b (Err q) b' → (number_of q ≤ 8) ⊎ ((q ≡ TooManyVertices) × (1048576 < vertex_sum (tubes_in s)))
+    large_refused {q = q} B = go (exit s b (Err q) (built_is B))
       where
-        go : Exit s b (NoMesh q) → (number_of q ≤ 8) ⊎ ((q ≡ TooManyVertices) × (1048576 < vertex_sum (tubes_in s)))
+        go : Exit s b (Err q) → (number_of q ≤ 8) ⊎ ((q ≡ TooManyVertices) × (1048576 < vertex_sum (tubes_in s)))
         go (early x e y) = inl (subst (λ (z : Refusal). number_of z ≤ 8) (sym (same_refusal y)) (checks_numbered s x e).1)
         go (nine p e y) =
             let f : true ≡ false = sym e ∙ not_short s b.scratch (enough_always p) in
@@ -75,10 +75,10 @@ module _ (b : Buffers) (L : LargeRoom b) where
             absurd (omega arith)
         go (ten p e m y) = inr (same_refusal y, m)
         go (eleven r h y) = absurd (room_not b (counts_of (tubes_in s)) (room_always r.limit) h)
-        go (mesh r t y) = mesh_or_not (sym y)
+        go (mesh r t y) = ok_or_not (sym y)
 
     -- and 10 alone where checks 1 to 8 are passed
-    pub large_too_many : {b' : Buffers} {q : Refusal} → Passes s → Builds s b (NoMesh q) b' → (q ≡ TooManyVertices) × (1048576 < vertex_sum (tubes_in s))
+    pub large_too_many : {b' : Buffers} {q : Refusal} → Passes s → Builds s b (Err q) b' → (q ≡ TooManyVertices) × (1048576 < vertex_sum (tubes_in s))
     large_too_many p B = ⊎_elim (λ h. absurd (omega (arith, past_checks p B))) (λ m. m) (large_refused B)
 
 -- ---- a job's own bytes

@@ -13,8 +13,9 @@ ghost use Rattle.room.specs.Room.{lent, buffers, scratch, scratch_past};
 ghost use Rattle.promises.specs.Calls.{tubes_with, build_checks, outs_by};
 ghost use Rattle.party_promises.specs.Calls.{BuildsShare, PlansRecords};
 
-use job::{Checked, Refusal};
-use promises::{Built, Planned};
+use buffers::Counts;
+use job::Refusal;
+use promises::Plan;
 use protein::Head;
 use shares::Shares;
 
@@ -32,7 +33,7 @@ fn build_within(
     boxes: &mut [f32],
     words: &mut [u32],
     floats: &mut [f32],
-) -> Built
+) -> Result<Counts, Refusal>
     requires { Whole b.now h × Chained (job_of b.now h) h.chains × ((segments_of q.now).count ≤ 65535)
         × Fits mine (lends positions normals tags triangles tubes boxes) }
     ensures { (result ≡ build_checks h (tubes_with b.now h q.now)
@@ -83,42 +84,40 @@ pub fn build_share(
     boxes: &mut [f32],
     words: &mut [u32],
     floats: &mut [f32],
-) -> Built
+) -> Result<Counts, Refusal>
     ensures { BuildsShare b.now q.now mine other
         (buffers (held positions normals tags triangles tubes boxes) words.old floats.old) result
         (buffers (holds positions normals tags triangles tubes boxes) words.new floats.new) }
 {
-    let c = job::check_shared(b, q);
-    match c {
-        Checked::Refused(r) => Built::NoMesh(r),
-        Checked::Fine(h) => {
-            if shares::is_bad_shares(
-                mine,
-                other,
-                positions.len(),
-                normals.len(),
-                tags.len(),
-                triangles.len(),
-                tubes.len(),
-                boxes.len(),
-            ) {
-                return Built::NoMesh(Refusal::BadShares);
-            }
-            build_within(
-                b, h, q, mine, positions, normals, tags, triangles, tubes, boxes, words, floats,
-            )
-        }
+    let h = job::check_shared(b, q)?;
+    if shares::is_bad_shares(
+        mine,
+        other,
+        positions.len(),
+        normals.len(),
+        tags.len(),
+        triangles.len(),
+        tubes.len(),
+        boxes.len(),
+    ) {
+        return Err(Refusal::BadShares);
     }
+    build_within(
+        b, h, q, mine, positions, normals, tags, triangles, tubes, boxes, words, floats,
+    )
 }
 
 // Counts of a shared job's mesh with one party's records, and tube k's five words, all 0 if k is K or more. A plan needs no share.
-pub fn plan_records(b: &[u8], q: &[u8], k: usize, words: &mut [u32], floats: &mut [f32]) -> Planned
+pub fn plan_records(
+    b: &[u8],
+    q: &[u8],
+    k: usize,
+    words: &mut [u32],
+    floats: &mut [f32],
+) -> Result<Plan, Refusal>
     ensures { PlansRecords b.now q.now k (scratch words.old floats.old) result
         (scratch words.new floats.new) }
 {
-    let c = job::check_shared(b, q);
-    match c {
-        Checked::Refused(r) => Planned::NoPlan(r),
-        Checked::Fine(h) => ribbon::plan_checked(b, h, q, k, words, floats),
-    }
+    let h = job::check_shared(b, q)?;
+    ribbon::plan_checked(b, h, q, k, words, floats)
 }

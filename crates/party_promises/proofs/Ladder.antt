@@ -11,14 +11,14 @@ use Rattle.shares.specs.Shares.{bad_shares}
 use Rattle.shares.proofs.Laws.{good_fits, sizes_share}
 use Rattle.buffers.specs.Outs.{Sizes}
 use Rattle.room.specs.Room.{Lent, Buffers, lent}
-use Rattle.promises.specs.declared.Built.TheVariants.{NoMesh}
+use Rattle.std.specs.Prelude.{Err}
 use Rattle.promises.specs.Calls.{build_checks}
 use Rattle.party_promises.specs.Calls.{share_lent, share_checks}
 use Rattle.party_promises.specs.Parties.{GoodShares, in_share}
 
 module _ (h : Head) (us : List Tube) (m k : Shares) (l : Lent) where
   -- bad shares give 20, whatever the scratch and the room are
-  pub bad_first : bad_shares l.outs m k ≡ true → share_checks h us m k l ≡ NoMesh BadShares
+  pub bad_first : bad_shares l.outs m k ≡ true → share_checks h us m k l ≡ Err BadShares
   unfolding share_checks
   bad_first t = rw t
 

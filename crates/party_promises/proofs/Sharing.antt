@@ -9,8 +9,9 @@ use Rattle.lists.proofs.Puts.{kept}
 use Rattle.protein.specs.declared.Head.{Head}
 use Rattle.protein.specs.Protein.{Protein, protein_of}
 use Rattle.job.specs.Check.{check_shared}
-use Rattle.job.specs.declared.Checked.{Checked}
-use Rattle.job.specs.declared.Checked.TheVariants.{Fine, Refused}
+use Rattle.std.specs.Prelude.{Result, Ok, Err}
+use Rattle.job.specs.declared.Refusal.{Refusal}
+use Rattle.buffers.specs.declared.Counts.{Counts}
 use Rattle.tubes.specs.Tubes.{Tube}
 use Rattle.buffers.specs.Outs.{Outs, Sizes, sizes_of}
 use Rattle.shares.specs.declared.Share.{Share}
@@ -18,8 +19,6 @@ use Rattle.shares.specs.declared.Shares.{Shares}
 use Rattle.shares.specs.Shares.{bad_shares, share_sizes, share_of, with_share, within, Fits}
 use Rattle.shares.proofs.Laws.{good_fits, sizes_same, sizes_share, sizes_with, share_with, share_apart, length_within, outside}
 use Rattle.room.specs.Room.{Lent, Buffers, lent}
-use Rattle.promises.specs.declared.Built.{Built}
-use Rattle.promises.specs.declared.Built.TheVariants.{Mesh, NoMesh}
 use Rattle.promises.specs.Calls.{by_check, tubes_with, build_checks, filled}
 use Rattle.promises.proofs.Told.{built_told}
 use Rattle.party_promises.specs.Calls.{share_lent, share_checks, share_answer, shared_by, share_outs, BuildsShare}
@@ -27,7 +26,7 @@ use Rattle.party_promises.proofs.Ladder.{bad_first, good_then}
 use Rattle.party_promises.specs.Parties.{GoodShares, SameOutside, Outside, Called, none, then}
 
 -- what a promise says of an answer's numbers it says of the answer
-pub answer_is : {s q : List ℕ} {m k : Shares} {b b' : Buffers} {r : Built} → BuildsShare s q m k b r b' → r ≡ share_answer s q m k (lent b)
+pub answer_is : {s q : List ℕ} {m k : Shares} {b b' : Buffers} {r : Result Counts Refusal} → BuildsShare s q m k b r b' → r ≡ share_answer s q m k (lent b)
 answer_is {r = r} B = built_told r _ B.answer
 
 -- a mesh leaves each buffer as long as it was
@@ -48,9 +47,9 @@ Did m k o o' = (o' ≡ o) ⊎ Wrote m k o o'
 did_by : (m k : Shares) (o : Outs) (P : Protein) (us : List Tube) (h : Head) (l : Lent) → l.outs ≡ sizes_of o → Did m k o (shared_by (share_checks h us m k l) P us m o)
 did_by m k o P us h l e = go (bad_shares l.outs m k) refl
   where
-    built : bad_shares l.outs m k ≡ false → (r : Built) → Did m k o (shared_by r P us m o)
-    built g (NoMesh r) = inl refl
-    built g (Mesh c) =
+    built : bad_shares l.outs m k ≡ false → (r : Result Counts Refusal) → Did m k o (shared_by r P us m o)
+    built g (Err r) = inl refl
+    built g (Ok c) =
         let good : GoodShares o m k = ap (λ (n : Sizes). bad_shares n m k) (sym e) ∙ g in
         inr (good, (filled P us (share_of m o), (filled_sizes P us (share_of m o) ∙ sizes_share m o (good_fits m k o good).0, refl)))
 
@@ -58,13 +57,13 @@ did_by m k o P us h l e = go (bad_shares l.outs m k) refl
     go true g = rw (bad_first h us m k l g) (inl refl)
     go false g = rw (good_then h us m k l g) (built g (build_checks h us (share_lent m l)))
 
-pub did : {s q : List ℕ} {m k : Shares} {b b' : Buffers} {r : Built} → BuildsShare s q m k b r b' → Did m k b.outs b'.outs
+pub did : {s q : List ℕ} {m k : Shares} {b b' : Buffers} {r : Result Counts Refusal} → BuildsShare s q m k b r b' → Did m k b.outs b'.outs
 unfolding share_outs
 did {s} {q} {m} {k} {b} {b'} B = subst (λ (o : Outs). Did m k b.outs o) (sym B.outputs) (go (check_shared s q))
   where
-    go : (c : Checked) → Did m k b.outs (by_check c (λ r. b.outs) (λ h. shared_by (share_checks h (tubes_with s h q) m k (lent b)) (protein_of s h) (tubes_with s h q) m b.outs))
-    go (Refused r) = inl refl
-    go (Fine h) = did_by m k b.outs (protein_of s h) (tubes_with s h q) h (lent b) refl
+    go : (c : Result Head Refusal) → Did m k b.outs (by_check c (λ r. b.outs) (λ h. shared_by (share_checks h (tubes_with s h q) m k (lent b)) (protein_of s h) (tubes_with s h q) m b.outs))
+    go (Err r) = inl refl
+    go (Ok h) = did_by m k b.outs (protein_of s h) (tubes_with s h q) h (lent b) refl
 
 -- the buffers are as long as they were
 pub did_sizes : (m k : Shares) (o o' : Outs) → Did m k o o' → sizes_of o' ≡ sizes_of o
@@ -132,9 +131,9 @@ own_by : (m k : Shares) (o p : Outs) (P : Protein) (us : List Tube) (h : Head) (
     → share_of m (shared_by (share_checks h us m k l) P us m o) ≡ share_of m (shared_by (share_checks h us m k l) P us m p)
 own_by m k o p P us h l e z w = go (bad_shares l.outs m k) refl
   where
-    built : bad_shares l.outs m k ≡ false → (r : Built) → share_of m (shared_by r P us m o) ≡ share_of m (shared_by r P us m p)
-    built g (NoMesh r) = w
-    built g (Mesh c) =
+    built : bad_shares l.outs m k ≡ false → (r : Result Counts Refusal) → share_of m (shared_by r P us m o) ≡ share_of m (shared_by r P us m p)
+    built g (Err r) = w
+    built g (Ok c) =
         let F = (good_fits m k o (ap (λ (n : Sizes). bad_shares n m k) (sym e) ∙ g)).0 in
         let G = (good_fits m k p (ap (λ (n : Sizes). bad_shares n m k) (sym (e ∙ z)) ∙ g)).0 in
         share_with m o (filled P us (share_of m o)) F (filled_sizes P us (share_of m o) ∙ sizes_share m o F)
@@ -150,13 +149,13 @@ own_same : (s q : List ℕ) (m k : Shares) (l : Lent) (o p : Outs) → l.outs �
 unfolding share_outs
 own_same s q m k l o p e z w = go (check_shared s q)
   where
-    go : (c : Checked) → share_of m (by_check c (λ r. o) (λ h. shared_by (share_checks h (tubes_with s h q) m k l) (protein_of s h) (tubes_with s h q) m o))
+    go : (c : Result Head Refusal) → share_of m (by_check c (λ r. o) (λ h. shared_by (share_checks h (tubes_with s h q) m k l) (protein_of s h) (tubes_with s h q) m o))
         ≡ share_of m (by_check c (λ r. p) (λ h. shared_by (share_checks h (tubes_with s h q) m k l) (protein_of s h) (tubes_with s h q) m p))
-    go (Refused r) = w
-    go (Fine h) = own_by m k o p (protein_of s h) (tubes_with s h q) h l e z w
+    go (Err r) = w
+    go (Ok h) = own_by m k o p (protein_of s h) (tubes_with s h q) h l e z w
 
 -- two calls of the same job and records, on buffers as long whose own shares hold the same, answer the same and leave the same there
-pub alike : {s q : List ℕ} {m k : Shares} {b b' d d' : Buffers} {r t : Built} → BuildsShare s q m k b r b' → BuildsShare s q m k d t d' → lent b ≡ lent d
+pub alike : {s q : List ℕ} {m k : Shares} {b b' d d' : Buffers} {r t : Result Counts Refusal} → BuildsShare s q m k b r b' → BuildsShare s q m k d t d' → lent b ≡ lent d
     → share_of m b.outs ≡ share_of m d.outs → (r ≡ t) × (share_of m b'.outs ≡ share_of m d'.outs)
 alike {s} {q} {m} {k} {b} {b'} {d} {d'} B D e w = (
   answer_is B ∙ answer_same s q m k (lent b) (lent d) e ∙ sym (answer_is D),

@@ -1,14 +1,14 @@
 -- What the theorems of proofs/Demands say of two parties, in the words of 02 §5.
-use Rattle.std.specs.Prelude.{ℕ, ◌+◌, ◌<◌, ◌≤◌, List, false, ◌⊎◌, ◌≡◌, length, get_or, Float}
+use Rattle.std.specs.Prelude.{ℕ, ◌+◌, ◌<◌, ◌≤◌, List, false, ◌⊎◌, ◌≡◌, length, get_or, Result, Ok}
 use Rattle.protein.specs.Layout.{head_of}
 use Rattle.job.specs.Check.{shared_sizes, check_shared}
-use Rattle.job.specs.declared.Checked.TheVariants.{Fine}
+use Rattle.buffers.specs.declared.Counts.{Counts}
+use Rattle.job.specs.declared.Refusal.{Refusal}
 use Rattle.buffers.specs.Outs.{Outs, sizes_of}
 use Rattle.shares.specs.declared.Share.{Share}
 use Rattle.shares.specs.declared.Shares.{Shares}
 use Rattle.shares.specs.Shares.{bad_shares, share_of}
 use Rattle.room.specs.Room.{Scratch, Buffers}
-use Rattle.promises.specs.declared.Built.{Built}
 use Rattle.party_promises.specs.Calls.{BuildsShare}
 
 -- ---- of a job and records
@@ -19,11 +19,11 @@ AllBytes s = (i : ℕ) → get_or s i 0 < 256
 
 -- 'one shared job with S = 0', past checks 1 to 4, with records that are whole and not above 65,535
 abbrev pub Shared : List ℕ → List ℕ → Type 0
-Shared s q = shared_sizes s (length q) ≡ Fine (head_of s)
+Shared s q = shared_sizes s (length q) ≡ Ok (head_of s)
 
 -- and past 5 to 8
 abbrev pub PassesShared : List ℕ → List ℕ → Type 0
-PassesShared s q = check_shared s q ≡ Fine (head_of s)
+PassesShared s q = check_shared s q ≡ Ok (head_of s)
 
 -- ---- of shares
 
@@ -71,4 +71,4 @@ at o c = record { outs = o; scratch = c }
 -- scratch of its own or the same one. The buffers held o before the first, and o' after the last
 pub data Called (m k : Shares) : Outs → Outs → Type 0 where
   none : (o o' : Outs) → o ≡ o' → Called m k o o'
-  then : (s q : List ℕ) (c c' : Scratch) (r : Built) (o p o' : Outs) → BuildsShare s q m k (at o c) r (at p c') → Called m k p o' → Called m k o o'
+  then : (s q : List ℕ) (c c' : Scratch) (r : Result Counts Refusal) (o p o' : Outs) → BuildsShare s q m k (at o c) r (at p c') → Called m k p o' → Called m k o o'

@@ -10,7 +10,7 @@ use native.Mathlib.Omega.{arith}
 use Rattle.lists.proofs.Any.{place_behind}
 use Rattle.job.specs.Check.{check}
 use Rattle.job.specs.Refusals.{number_of}
-use Rattle.job.specs.declared.Checked.TheVariants.{Fine}
+use Rattle.std.specs.Prelude.{Ok}
 use Rattle.job.specs.declared.Refusal.{Refusal}
 use Rattle.job.specs.declared.Refusal.TheVariants.{NoJobRoom}
 use Rattle.pdb_records.specs.declared.AtomLine.{AtomLine}
@@ -88,11 +88,11 @@ module _ {s out out' : List ℕ} where
   place_stays {n} {k} h = place_behind n k out' out 0 (past_job_stays h)
 
   -- THE theorem: what the reader accepts, the builder never refuses before check 9
-  pub accepted_passes : {n : ℕ} → Reads s out (Ok n) out' → check (pdb_job s) ≡ Fine (head_for (structure_of s))
+  pub accepted_passes : {n : ℕ} → Reads s out (Ok n) out' → check (pdb_job s) ≡ Ok (head_for (structure_of s))
   accepted_passes h = structure_passes (structure_of s) (atoms_proper s) (segments_kinded s) (accepted h).file.limits
 
   -- the same of the bytes that stand in the lent buffer: its first n places are what a user hands to the builder
-  pub buffer_passes : {n : ℕ} → Reads s out (Ok n) out' → check (take n out') ≡ Fine (head_for (structure_of s))
+  pub buffer_passes : {n : ℕ} → Reads s out (Ok n) out' → check (take n out') ≡ Ok (head_for (structure_of s))
   buffer_passes h = ap check (job_in_front h) ∙ accepted_passes h
 
   -- and with those counts the builder reads the file out of it: `Says` (specs/Says), field by field, has the counts,

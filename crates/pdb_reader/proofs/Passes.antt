@@ -8,7 +8,7 @@ use lib.Dec.{eqb}
 use lib.ListN.{drop, length-map}
 use borrow.Author.Tests.{eq-eqb}
 use Rattle.job.specs.Check.{check}
-use Rattle.job.specs.declared.Checked.TheVariants.{Fine}
+use Rattle.std.specs.Prelude.{Ok}
 use Rattle.appearance.specs.Order.{member}
 use Rattle.appearance.proofs.Theorems.{below_count}
 use Rattle.job_writer.specs.declared.JobAtom.{JobAtom}
@@ -98,7 +98,7 @@ module _ (ats : List AtomLine) (P : Every Proper ats) where
       subst (λ (g : JobSegment). g.kind ≤ 2) (sym m.image) (every_at Kinded gs k m.item m.tail G m.is)
 
 -- THE law for a reader: proper atoms and segments, within the limits, make a job that passes checks 1 to 8
-pub structure_passes : (x : Structure) → Every Proper x.atoms → Every Kinded x.segments → past_limits x ≡ false → check (structure_job x) ≡ Fine (head_for x)
+pub structure_passes : (x : Structure) → Every Proper x.atoms → Every Kinded x.segments → past_limits x ≡ false → check (structure_job x) ≡ Ok (head_for x)
 unfolding structure_job
 structure_passes x P G e =
     let l = limited x e in

@@ -15,7 +15,7 @@ use Rattle.mesh.specs.Mesh.{size_of, box_by, tube_positions, tube_box, tube_word
 use Rattle.buffers.specs.Outs.{Outs}
 use Rattle.buffers.specs.declared.Counts.{Counts}
 use Rattle.room.specs.Room.{Buffers}
-use Rattle.promises.specs.declared.Built.TheVariants.{Mesh}
+use Rattle.std.specs.Prelude.{Ok}
 use Rattle.promises.specs.Calls.{Builds}
 use Rattle.promises.specs.Meshes.{TubeStands, vertices_for}
 use Rattle.promises.specs.Boxes.{residues_of, first_vertex, VertexOf, coordinate, least_of, greatest_of, Inside, Between, FirstOfEquals, Apart, Below}
@@ -45,13 +45,13 @@ module _ (P : Protein) (u : Tube) (k v t : ℕ) (o : Outs) (S : TubeStands P u k
   })
 
 -- a mesh's box k, and the vertices of its tube
-pub boxed : (s : List ℕ) (b b' : Buffers) (c : Counts) (k : ℕ) → Builds s b (Mesh c) b' → k < c.tubes
+pub boxed : (s : List ℕ) (b b' : Buffers) (c : Counts) (k : ℕ) → Builds s b (Ok c) b' → k < c.tubes
     → (xs : List Float) × Boxed xs b'.outs.positions b'.outs.boxes (first_vertex b'.outs k) (vertices_for (residues_of b'.outs k)) k
 boxed s b b' c k B h =
     let t = calls.there s b b' c B k h in
     (tube_positions _ t.0, boxed_tube _ t.0 k _ _ b'.outs (calls.stands s b b' c k t.0 B t.1))
 
-module _ (s : List ℕ) (b b' : Buffers) (c : Counts) (k a : ℕ) (B : Builds s b (Mesh c) b') (h : k < c.tubes) (axis : a < 3) where
+module _ (s : List ℕ) (b b' : Buffers) (c : Counts) (k a : ℕ) (B : Builds s b (Ok c) b') (h : k < c.tubes) (axis : a < 3) where
   pub inside : (j : ℕ) → VertexOf b'.outs k j → Inside b'.outs k a j
   inside j J = let i = boxes.tube_holds (boxed s b b' c k B h).1 a axis j J.from J.below in record { low = i.0; high = i.1 }
 
@@ -75,7 +75,7 @@ module _ (s : List ℕ) (b b' : Buffers) (c : Counts) (k a : ℕ) (B : Builds s 
   touched = let t = boxes.tube_touched (boxed s b b' c k B h).1 a axis in (first_of _ t.0, first_of _ t.1)
 
 pub apart : (s : List ℕ) (b b' : Buffers) (c : Counts) (k i : ℕ) (t : List ℕ) (d d' : Buffers) (e : Counts) (m j a : ℕ)
-    → Builds s b (Mesh c) b' → k < c.tubes → Builds t d (Mesh e) d' → m < e.tubes → a < 3 → Apart b'.outs k d'.outs m a
+    → Builds s b (Ok c) b' → k < c.tubes → Builds t d (Ok e) d' → m < e.tubes → a < 3 → Apart b'.outs k d'.outs m a
     → VertexOf b'.outs k i → VertexOf d'.outs m j → Below (coordinate b'.outs i a) (coordinate d'.outs j a)
 apart s b b' c k i t d d' e m j a B h D l axis A I J =
     let r = boxes.tubes_apart (boxed s b b' c k B h).1 (boxed t d d' e m D l).1 a axis A i j I.from I.below J.from J.below in

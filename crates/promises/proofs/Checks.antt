@@ -11,8 +11,7 @@ use borrow.Author.Tests.{lt-ltb, le-ltb, ltb-true, ltb-false}
 use Rattle.protein.specs.Layout.{head_of}
 use Rattle.protein.specs.declared.Head.{Head}
 use Rattle.job.specs.Check.{check}
-use Rattle.job.specs.declared.Checked.{Checked}
-use Rattle.job.specs.declared.Checked.TheVariants.{Fine, Refused}
+use Rattle.std.specs.Prelude.{Result, Ok, Err}
 use Rattle.job.specs.declared.Refusal.{Refusal}
 use Rattle.job.specs.declared.Refusal.TheVariants.{NoScratch, TooManyVertices, NoRoom}
 use Rattle.job.proofs.Laws.{check_whole}
@@ -21,29 +20,25 @@ use Rattle.tubes.specs.Tubes.{Tube}
 use Rattle.mesh.specs.Mesh.{vertex_sum, triangle_sum}
 use Rattle.buffers.specs.Outs.{Outs, sizes_of, tight}
 use Rattle.buffers.proofs.Laws.{roomy}
-use Rattle.walk.specs.declared.Five.{Five}
 use Rattle.buffers.specs.declared.Counts.{Counts}
 use Rattle.room.specs.Room.{Lent, Scratch, Buffers, lent, short_scratch, too_many, cleared, scratch_past}
 use Rattle.room.proofs.Laws.{long_words, long_floats}
-use Rattle.promises.specs.declared.Built.{Built}
-use Rattle.promises.specs.declared.Built.TheVariants.{Mesh, NoMesh}
-use Rattle.promises.specs.declared.Planned.TheVariants.{Plan, NoPlan}
 use Rattle.promises.specs.Calls.{counts_of, build_checks, build_answer, outs_by, outs_after, plan_checks, plan_answer, scratch_after}
 use Rattle.promises.specs.Meshes.{protein_in, tubes_in, Passes, Enough, Buildable, Shorter, RoomFor, NoLess, NoShorter}
 
 -- ---- checks 1 to 8
 
 -- a job that they hand counts on of passes them, with its own counts
-pub passes_by : (s : List ℕ) (h : Head) → check s ≡ Fine h → Passes s
-passes_by s h e = e ∙ ap Fine (check_whole s h e).head
+pub passes_by : (s : List ℕ) (h : Head) → check s ≡ Ok h → Passes s
+passes_by s h e = e ∙ ap Ok (check_whole s h e).head
 
 -- a job passes them, or is refused by one
-pub passes_or_refused : (s : List ℕ) → Passes s ⊎ ((r : Refusal) × (check s ≡ Refused r))
+pub passes_or_refused : (s : List ℕ) → Passes s ⊎ ((r : Refusal) × (check s ≡ Err r))
 passes_or_refused s = go (check s) refl
   where
-    go : (c : Checked) → check s ≡ c → Passes s ⊎ ((r : Refusal) × (check s ≡ Refused r))
-    go (Refused r) e = inr (r, e)
-    go (Fine h) e = inl (passes_by s h e)
+    go : (c : Result Head Refusal) → check s ≡ c → Passes s ⊎ ((r : Refusal) × (check s ≡ Err r))
+    go (Err r) e = inr (r, e)
+    go (Ok h) e = inl (passes_by s h e)
 
 module _ (s : List ℕ) (p : Passes s) where
   pub build_passed : (l : Lent) → build_answer s l ≡ build_checks (head_of s) (tubes_in s) l
@@ -62,8 +57,8 @@ module _ (s : List ℕ) (p : Passes s) where
   unfolding scratch_after
   scratch_passed c = rw p
 
-module _ (s : List ℕ) {r : Refusal} (e : check s ≡ Refused r) where
-  pub build_refused : (l : Lent) → build_answer s l ≡ NoMesh r
+module _ (s : List ℕ) {r : Refusal} (e : check s ≡ Err r) where
+  pub build_refused : (l : Lent) → build_answer s l ≡ Err r
   unfolding build_answer
   build_refused l = rw e
 
@@ -71,7 +66,7 @@ module _ (s : List ℕ) {r : Refusal} (e : check s ≡ Refused r) where
   unfolding outs_after
   outs_refused l o = rw e
 
-  pub plan_refused : (k words floats : ℕ) → plan_answer s k words floats ≡ NoPlan r
+  pub plan_refused : (k words floats : ℕ) → plan_answer s k words floats ≡ Err r
   unfolding plan_answer
   plan_refused k words floats = rw e
 
@@ -79,22 +74,16 @@ module _ (s : List ℕ) {r : Refusal} (e : check s ≡ Refused r) where
   unfolding scratch_after
   scratch_refused c = rw e
 
--- ---- a mesh is no refusal, a plan is none
+-- ---- a mesh, a plan or a job's counts are no refusal
 
-pub mesh_or_not : {A : Type 0} {c : Counts} {r : Refusal} → Mesh c ≡ NoMesh r → A
-mesh_or_not e = let z : ◌≡◌ {A = ℕ} 0 1 = cc in absurd (omega arith)
+pub ok_or_not : {A X : Type 0} {x : X} {r : Refusal} → ◌≡◌ {A = Result X Refusal} (Ok x) (Err r) → A
+ok_or_not e = let z : ◌≡◌ {A = ℕ} 0 1 = cc in absurd (omega arith)
 
-pub plan_or_not : {A : Type 0} {c : Counts} {f : Five} {r : Refusal} → Plan c f ≡ NoPlan r → A
-plan_or_not e = let z : ◌≡◌ {A = ℕ} 0 1 = cc in absurd (omega arith)
-
-pub fine_or_not : {A : Type 0} {h : Head} {r : Refusal} → Fine h ≡ Refused r → A
-fine_or_not e = let z : ◌≡◌ {A = ℕ} 0 1 = cc in absurd (omega arith)
-
-pub same_refusal : {q r : Refusal} → NoMesh q ≡ NoMesh r → q ≡ r
+pub same_refusal : {X : Type 0} {q r : Refusal} → ◌≡◌ {A = Result X Refusal} (Err q) (Err r) → q ≡ r
 same_refusal e = cc
 
-pub same_counts : {c d : Counts} → Mesh c ≡ Mesh d → c ≡ d
-same_counts e = cc
+pub same_ok : {X : Type 0} {x y : X} → ◌≡◌ {A = Result X Refusal} (Ok x) (Ok y) → x ≡ y
+same_ok e = cc
 
 -- ---- check 9
 
@@ -110,7 +99,7 @@ enough_more s c d N E = record { words = omega (arith, N.words, E.words); floats
 
 -- ---- the scratch after either call
 
-pub left : (s : List ℕ) (c : Scratch) {r : Refusal} → check s ≡ Refused r → scratch_after s c ≡ c
+pub left : (s : List ℕ) (c : Scratch) {r : Refusal} → check s ≡ Err r → scratch_after s c ≡ c
 left s c e = scratch_refused s e c
 
 pub left_at_nine : (s : List ℕ) (c : Scratch) → Passes s → short_scratch (head_of s) (length c.words) (length c.floats) ≡ true → scratch_after s c ≡ c
@@ -201,37 +190,37 @@ module _ (s : List ℕ) (p : Passes s) (b : Buffers) where
   abbrev short : Bool
   short = short_scratch (head_of s) (length b.scratch.words) (length b.scratch.floats)
 
-  pub at_nine : short ≡ true → build_answer s (lent b) ≡ NoMesh NoScratch
+  pub at_nine : short ≡ true → build_answer s (lent b) ≡ Err NoScratch
   unfolding build_checks
   at_nine e = build_passed s p (lent b) ∙ rw e
 
-  pub at_ten : short ≡ false → too_many us ≡ true → build_answer s (lent b) ≡ NoMesh TooManyVertices
+  pub at_ten : short ≡ false → too_many us ≡ true → build_answer s (lent b) ≡ Err TooManyVertices
   unfolding build_checks
   at_ten e m = build_passed s p (lent b) ∙ rw (e, m)
 
   pub at_eleven : short ≡ false → too_many us ≡ false → tight (counts_of us) (sizes_of b.outs) ≡ true
-      → build_answer s (lent b) ≡ NoMesh (NoRoom (length us) (vertex_sum us) (triangle_sum us))
+      → build_answer s (lent b) ≡ Err (NoRoom (length us) (vertex_sum us) (triangle_sum us))
   unfolding build_checks
   at_eleven e m t = build_passed s p (lent b) ∙ rw (e, m, t)
 
-  pub at_mesh : short ≡ false → too_many us ≡ false → tight (counts_of us) (sizes_of b.outs) ≡ false → build_answer s (lent b) ≡ Mesh (counts_of us)
+  pub at_mesh : short ≡ false → too_many us ≡ false → tight (counts_of us) (sizes_of b.outs) ≡ false → build_answer s (lent b) ≡ Ok (counts_of us)
   unfolding build_checks
   at_mesh e m t = build_passed s p (lent b) ∙ rw (e, m, t)
 
 -- which exit was taken, with what was found on the way
-pub data Exit (s : List ℕ) (b : Buffers) (r : Built) : Type 0 where
-  early : (q : Refusal) → check s ≡ Refused q → r ≡ NoMesh q → Exit s b r
-  nine : Passes s → short_scratch (head_of s) (length b.scratch.words) (length b.scratch.floats) ≡ true → r ≡ NoMesh NoScratch → Exit s b r
-  ten : Passes s → Enough s b.scratch → 1048576 < vertex_sum (tubes_in s) → r ≡ NoMesh TooManyVertices → Exit s b r
+pub data Exit (s : List ℕ) (b : Buffers) (r : Result Counts Refusal) : Type 0 where
+  early : (q : Refusal) → check s ≡ Err q → r ≡ Err q → Exit s b r
+  nine : Passes s → short_scratch (head_of s) (length b.scratch.words) (length b.scratch.floats) ≡ true → r ≡ Err NoScratch → Exit s b r
+  ten : Passes s → Enough s b.scratch → 1048576 < vertex_sum (tubes_in s) → r ≡ Err TooManyVertices → Exit s b r
   eleven : Buildable s b.scratch → Shorter b.outs (counts_of (tubes_in s))
-      → r ≡ NoMesh (NoRoom (length (tubes_in s)) (vertex_sum (tubes_in s)) (triangle_sum (tubes_in s))) → Exit s b r
-  mesh : Buildable s b.scratch → tight (counts_of (tubes_in s)) (sizes_of b.outs) ≡ false → r ≡ Mesh (counts_of (tubes_in s)) → Exit s b r
+      → r ≡ Err (NoRoom (length (tubes_in s)) (vertex_sum (tubes_in s)) (triangle_sum (tubes_in s))) → Exit s b r
+  mesh : Buildable s b.scratch → tight (counts_of (tubes_in s)) (sizes_of b.outs) ≡ false → r ≡ Ok (counts_of (tubes_in s)) → Exit s b r
 
 many : (us : List Tube) → too_many us ≡ true → 1048576 < vertex_sum us
 unfolding too_many
 many us e = ltb-true 1048576 (vertex_sum us) e
 
-pub exit : (s : List ℕ) (b : Buffers) (r : Built) → r ≡ build_answer s (lent b) → Exit s b r
+pub exit : (s : List ℕ) (b : Buffers) (r : Result Counts Refusal) → r ≡ build_answer s (lent b) → Exit s b r
 exit s b r e = ⊎_elim passed (λ q. early q.0 q.1 (e ∙ build_refused s q.1 (lent b))) (passes_or_refused s)
   where
     passed : Passes s → Exit s b r

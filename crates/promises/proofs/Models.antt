@@ -18,7 +18,7 @@ use Rattle.tubes.specs.Tubes.{Tube}
 use Rattle.mesh.specs.Mesh.{size_of, vertex_sum}
 use Rattle.buffers.specs.declared.Counts.{Counts}
 use Rattle.room.specs.Room.{Buffers}
-use Rattle.promises.specs.declared.Built.TheVariants.{Mesh}
+use Rattle.std.specs.Prelude.{Ok}
 use Rattle.promises.specs.Calls.{Builds}
 use Rattle.promises.specs.Meshes.{tubes_in, TubeAt, vertices_for}
 use Rattle.promises.specs.Boxes.{residues_of, first_vertex, VertexOf, coordinate, least_of, greatest_of, FirstOfEquals, Apart, Below}
@@ -53,7 +53,7 @@ falls (u ∷ us) j h = go (ltb j n) refl (λ p. falls us (j - n) (omega (arith, 
 
 -- ---- the vertices of a mesh
 
-module _ (s : List ℕ) (b b' : Buffers) (c : Counts) (B : Builds s b (Mesh c) b') where
+module _ (s : List ℕ) (b b' : Buffers) (c : Counts) (B : Builds s b (Ok c) b') where
   vertices_are : c.vertices ≡ vertex_sum (tubes_in s)
   vertices_are = ap (λ (n : Counts). n.vertices) (meshed s b b' c B).counts
 
@@ -81,7 +81,7 @@ module _ (s : List ℕ) (b b' : Buffers) (c : Counts) (B : Builds s b (Mesh c) b
 -- ---- two models
 
 pub apart : (s : List ℕ) (b b' : Buffers) (c : Counts) (t : List ℕ) (d d' : Buffers) (e : Counts) (i j a : ℕ)
-    → Builds s b (Mesh c) b' → Builds t d (Mesh e) d' → a < 3
+    → Builds s b (Ok c) b' → Builds t d (Ok e) d' → a < 3
     → ((k m : ℕ) → k < c.tubes → m < e.tubes → Apart b'.outs k d'.outs m a)
     → i < c.vertices → j < e.vertices → Below (coordinate b'.outs i a) (coordinate d'.outs j a)
 apart s b b' c t d d' e i j a B D axis A p q =
@@ -118,7 +118,7 @@ module _ {xs P Q : List Float} {v m k : ℕ} (T : Boxed xs P Q v m k) (a : ℕ) 
       let e : 6 * k + (3 + a) ≡ 6 * k + 3 + a = omega arith in
       rw e at (part_place Q (6 * k) 6 (3 + a) nan T.box (omega arith)) ∙ box_greatest xs a axis
 
-pub only_such : (s : List ℕ) (b b' : Buffers) (c : Counts) (k a : ℕ) (x : Float) → Builds s b (Mesh c) b' → k < c.tubes → a < 3
+pub only_such : (s : List ℕ) (b b' : Buffers) (c : Counts) (k a : ℕ) (x : Float) → Builds s b (Ok c) b' → k < c.tubes → a < 3
     → is_nan (coordinate b'.outs (first_vertex b'.outs k) a) ≡ false → is_nan x ≡ false → FirstOfEquals b'.outs k a x
     → (((j : ℕ) → VertexOf b'.outs k j → lt (coordinate b'.outs j a) x ≡ false) → x ≡ least_of b'.outs k a)
     × (((j : ℕ) → VertexOf b'.outs k j → lt x (coordinate b'.outs j a) ≡ false) → x ≡ greatest_of b'.outs k a)

@@ -9,32 +9,31 @@ use lib.ListN.{length}
 use Rattle.protein.specs.Layout.{head_of}
 use Rattle.job.specs.Check.{check}
 use Rattle.job.specs.Refusals.{number_of}
-use Rattle.job.specs.declared.Checked.TheVariants.{Refused}
+use Rattle.std.specs.Prelude.{Result, Ok, Err}
+use Rattle.promises.specs.declared.Plan.{Plan}
 use Rattle.job.specs.declared.Refusal.{Refusal}
 use Rattle.job.specs.declared.Refusal.TheVariants.{NoScratch, TooManyVertices}
 use Rattle.walk.specs.declared.Five.{Five}
 use Rattle.buffers.specs.declared.Counts.{Counts}
 use Rattle.room.specs.Room.{Scratch, short_scratch, too_many, cleared}
-use Rattle.promises.specs.declared.Planned.{Planned}
-use Rattle.promises.specs.declared.Planned.TheVariants.{Plan, NoPlan}
-use Rattle.promises.specs.Calls.{counts_of, words_at, plan_checks, plan_answer, scratch_after, Plans}
+use Rattle.promises.specs.Calls.{counts_of, words_at, plan_checks, plan_answer, scratch_after, Plans, with_words}
 use Rattle.promises.specs.Meshes.{tubes_in, Passes, Enough, Buildable}
 use Rattle.promises.proofs.Told.{planned_is}
 use Rattle.promises.proofs.Numbered.{UpTo, checks_numbered}
-use Rattle.promises.proofs.Checks.{passes_or_refused, plan_passed, plan_refused, plan_or_not, fine_or_not, enough, few, left, left_at_nine, emptied}
+use Rattle.promises.proofs.Checks.{passes_or_refused, plan_passed, plan_refused, ok_or_not, same_refusal, same_ok, enough, few, left, left_at_nine, emptied}
 
-pub one : {s : List ℕ} {k : ℕ} {c c' c'' : Scratch} {r q : Planned} → Plans s k c r c' → Plans s k c q c'' → (r ≡ q) × (c' ≡ c'')
+pub one : {s : List ℕ} {k : ℕ} {c c' c'' : Scratch} {r q : Result Plan Refusal} → Plans s k c r c' → Plans s k c q c'' → (r ≡ q) × (c' ≡ c'')
 one P Q = (planned_is P ∙ sym (planned_is Q), P.scratch ∙ sym Q.scratch)
 
 -- ---- which exit plan took
 
-pub data PlanExit (s : List ℕ) (k : ℕ) (c : Scratch) (r : Planned) : Type 0 where
-  early : (q : Refusal) → check s ≡ Refused q → r ≡ NoPlan q → PlanExit s k c r
-  nine : Passes s → short_scratch (head_of s) (length c.words) (length c.floats) ≡ true → r ≡ NoPlan NoScratch → PlanExit s k c r
-  ten : Passes s → Enough s c → r ≡ NoPlan TooManyVertices → PlanExit s k c r
-  plan : Buildable s c → r ≡ Plan (counts_of (tubes_in s)) (words_at 0 0 (tubes_in s) k) → PlanExit s k c r
+pub data PlanExit (s : List ℕ) (k : ℕ) (c : Scratch) (r : Result Plan Refusal) : Type 0 where
+  early : (q : Refusal) → check s ≡ Err q → r ≡ Err q → PlanExit s k c r
+  nine : Passes s → short_scratch (head_of s) (length c.words) (length c.floats) ≡ true → r ≡ Err NoScratch → PlanExit s k c r
+  ten : Passes s → Enough s c → r ≡ Err TooManyVertices → PlanExit s k c r
+  plan : Buildable s c → r ≡ Ok (with_words (counts_of (tubes_in s)) (words_at 0 0 (tubes_in s) k)) → PlanExit s k c r
 
-pub plan_exit : (s : List ℕ) (k : ℕ) (c : Scratch) (r : Planned) → r ≡ plan_answer s k (length c.words) (length c.floats) → PlanExit s k c r
+pub plan_exit : (s : List ℕ) (k : ℕ) (c : Scratch) (r : Result Plan Refusal) → r ≡ plan_answer s k (length c.words) (length c.floats) → PlanExit s k c r
 unfolding plan_checks
 plan_exit s k c r e = ⊎_elim passed (λ q. early q.0 q.1 (e ∙ plan_refused s q.1 k _ _)) (passes_or_refused s)
   where
@@ -52,72 +51,66 @@ plan_exit s k c r e = ⊎_elim passed (λ q. early q.0 q.1 (e ∙ plan_refused s
         by_nine true f = nine p f (q ∙ rw f)
         by_nine false f = by_ten (too_many (tubes_in s)) refl f
 
-pub same_refused : {q r : Refusal} → NoPlan q ≡ NoPlan r → q ≡ r
-same_refused e = cc
-
-same_plan : {c d : Counts} {f g : Five} → Plan c f ≡ Plan d g → (c ≡ d) × (f ≡ g)
-same_plan e = (cc, cc)
-
-pub planned : (s : List ℕ) (k : ℕ) (c c' : Scratch) (n : Counts) (f : Five) → Plans s k c (Plan n f) c'
+pub planned : (s : List ℕ) (k : ℕ) (c c' : Scratch) (n : Counts) (f : Five) → Plans s k c (Ok (with_words n f)) c'
     → Buildable s c × (n ≡ counts_of (tubes_in s)) × (f ≡ words_at 0 0 (tubes_in s) k)
-planned s k c c' n f P = go (plan_exit s k c (Plan n f) (planned_is P))
+planned s k c c' n f P = go (plan_exit s k c (Ok (with_words n f)) (planned_is P))
   where
-    go : PlanExit s k c (Plan n f) → Buildable s c × (n ≡ counts_of (tubes_in s)) × (f ≡ words_at 0 0 (tubes_in s) k)
-    go (early q e x) = plan_or_not x
-    go (nine p e x) = plan_or_not x
-    go (ten p e x) = plan_or_not x
-    go (plan R x) = let z = same_plan x in (R, z.0, z.1)
+    go : PlanExit s k c (Ok (with_words n f)) → Buildable s c × (n ≡ counts_of (tubes_in s)) × (f ≡ words_at 0 0 (tubes_in s) k)
+    go (early q e x) = ok_or_not x
+    go (nine p e x) = ok_or_not x
+    go (ten p e x) = ok_or_not x
+    go (plan R x) = let z = same_ok x in (R, ap (λ (p : Plan). p.counts) z, ap (λ (p : Plan). p.words) z)
 
-pub numbers : (s : List ℕ) (k : ℕ) (c c' : Scratch) (q : Refusal) → Plans s k c (NoPlan q) c' → (1 ≤ number_of q) × (number_of q ≤ 10)
-numbers s k c c' q P = go (plan_exit s k c (NoPlan q) (planned_is P))
+pub numbers : (s : List ℕ) (k : ℕ) (c c' : Scratch) (q : Refusal) → Plans s k c (Err q) c' → (1 ≤ number_of q) × (number_of q ≤ 10)
+numbers s k c c' q P = go (plan_exit s k c (Err q) (planned_is P))
   where
-    is : (x : Refusal) → UpTo 10 x → NoPlan q ≡ NoPlan x → UpTo 10 q
-    is x h e = subst (UpTo 10) (sym (same_refused e)) h
+    is : (x : Refusal) → UpTo 10 x → ◌≡◌ {A = Result Plan Refusal} (Err q) (Err x) → UpTo 10 q
+    is x h e = subst (UpTo 10) (sym (same_refusal e)) h
 
-    go : PlanExit s k c (NoPlan q) → UpTo 10 q
+    go : PlanExit s k c (Err q) → UpTo 10 q
     go (early x e y) = let z = checks_numbered s x e in is x (z.0, omega (arith, z.1)) y
     go (nine p e y) = is NoScratch (omega arith, omega arith) y
     go (ten p e y) = is TooManyVertices (omega arith, omega arith) y
-    go (plan R y) = plan_or_not (sym y)
+    go (plan R y) = ok_or_not (sym y)
 
-pub short : (s : List ℕ) (k : ℕ) (c c' : Scratch) (r : Planned) → Passes s → (Enough s c → ⊥) → Plans s k c r c' → r ≡ NoPlan NoScratch
+pub short : (s : List ℕ) (k : ℕ) (c c' : Scratch) (r : Result Plan Refusal) → Passes s → (Enough s c → ⊥) → Plans s k c r c' → r ≡ Err NoScratch
 short s k c c' r p never P = go (plan_exit s k c r (planned_is P))
   where
-    go : PlanExit s k c r → r ≡ NoPlan NoScratch
-    go (early q e y) = fine_or_not (sym p ∙ e)
+    go : PlanExit s k c r → r ≡ Err NoScratch
+    go (early q e y) = ok_or_not (sym p ∙ e)
     go (nine p e y) = y
     go (ten p e y) = absurd (never e)
     go (plan R y) = absurd (never R.scratch)
 
-pub late : (s : List ℕ) (k : ℕ) (c c' : Scratch) (q : Refusal) → Passes s → Plans s k c (NoPlan q) c' → 9 ≤ number_of q
-late s k c c' q p P = go (plan_exit s k c (NoPlan q) (planned_is P))
+pub late : (s : List ℕ) (k : ℕ) (c c' : Scratch) (q : Refusal) → Passes s → Plans s k c (Err q) c' → 9 ≤ number_of q
+late s k c c' q p P = go (plan_exit s k c (Err q) (planned_is P))
   where
-    go : PlanExit s k c (NoPlan q) → 9 ≤ number_of q
-    go (early x e y) = fine_or_not (sym p ∙ e)
-    go (nine p e y) = omega (arith, ap number_of (same_refused y))
-    go (ten p e y) = omega (arith, ap number_of (same_refused y))
-    go (plan R y) = plan_or_not (sym y)
+    go : PlanExit s k c (Err q) → 9 ≤ number_of q
+    go (early x e y) = ok_or_not (sym p ∙ e)
+    go (nine p e y) = omega (arith, ap number_of (same_refusal y))
+    go (ten p e y) = omega (arith, ap number_of (same_refusal y))
+    go (plan R y) = ok_or_not (sym y)
 
 -- ---- by the refusal's number
 
-module _ (s : List ℕ) (k : ℕ) (c c' : Scratch) (q : Refusal) (P : Plans s k c (NoPlan q) c') where
+module _ (s : List ℕ) (k : ℕ) (c c' : Scratch) (q : Refusal) (P : Plans s k c (Err q) c') where
   pub leaves : number_of q ≤ 9 → c' ≡ c
-  leaves h = P.scratch ∙ go (plan_exit s k c (NoPlan q) (planned_is P))
+  leaves h = P.scratch ∙ go (plan_exit s k c (Err q) (planned_is P))
     where
-      go : PlanExit s k c (NoPlan q) → scratch_after s c ≡ c
+      go : PlanExit s k c (Err q) → scratch_after s c ≡ c
       go (early x e y) = left s c e
       go (nine p e y) = left_at_nine s c p e
-      go (ten p e y) = absurd (omega (arith, ap number_of (same_refused y)))
-      go (plan R y) = plan_or_not (sym y)
+      go (ten p e y) = absurd (omega (arith, ap number_of (same_refusal y)))
+      go (plan R y) = ok_or_not (sym y)
 
   pub empties : 9 < number_of q → c' ≡ cleared (head_of s) c
-  empties h = P.scratch ∙ go (plan_exit s k c (NoPlan q) (planned_is P))
+  empties h = P.scratch ∙ go (plan_exit s k c (Err q) (planned_is P))
     where
-      go : PlanExit s k c (NoPlan q) → scratch_after s c ≡ cleared (head_of s) c
-      go (early x e y) = absurd (omega (arith, ap number_of (same_refused y), (checks_numbered s x e).1))
-      go (nine p e y) = absurd (omega (arith, ap number_of (same_refused y)))
+      go : PlanExit s k c (Err q) → scratch_after s c ≡ cleared (head_of s) c
+      go (early x e y) = absurd (omega (arith, ap number_of (same_refusal y), (checks_numbered s x e).1))
+      go (nine p e y) = absurd (omega (arith, ap number_of (same_refusal y)))
       go (ten p e y) = emptied s c p e
-      go (plan R y) = plan_or_not (sym y)
+      go (plan R y) = ok_or_not (sym y)
 
-pub empties_after : (s : List ℕ) (k : ℕ) (c c' : Scratch) (n : Counts) (f : Five) → Plans s k c (Plan n f) c' → c' ≡ cleared (head_of s) c
+pub empties_after : (s : List ℕ) (k : ℕ) (c c' : Scratch) (n : Counts) (f : Five) → Plans s k c (Ok (with_words n f)) c' → c' ≡ cleared (head_of s) c
 empties_after s k c c' n f P = let R = (planned s k c c' n f P).0 in P.scratch ∙ emptied s c R.passes R.scratch

@@ -16,11 +16,10 @@ use Rattle.walk.specs.declared.Five.{Five}
 use Rattle.buffers.specs.declared.Counts.{Counts}
 use Rattle.room.specs.Room.{Scratch, Buffers, no_words}
 use Rattle.tube_call.specs.Part.{Tubed}
-use Rattle.promises.specs.declared.Built.{Built}
-use Rattle.promises.specs.declared.Built.TheVariants.{Mesh, NoMesh}
+use Rattle.std.specs.Prelude.{Result, Ok, Err}
+use Rattle.job.specs.declared.Refusal.{Refusal}
 use Rattle.job.specs.declared.Refusal.TheVariants.{NoRoom}
-use Rattle.promises.specs.declared.Planned.TheVariants.{Plan}
-use Rattle.promises.specs.Calls.{counts_of, words_at, five_words, Builds, Plans}
+use Rattle.promises.specs.Calls.{counts_of, words_at, five_words, Builds, Plans, with_words}
 use Rattle.promises.specs.Meshes.{protein_in, tubes_in, Buildable, Shorter, RoomFor, NoLess, TubeAt, Stands, TubeStands, vertices_of, triangles_of}
 use Rattle.promises.proofs.Tubes.{list_long_of, each_most}
 use Rattle.promises.proofs.Told.{built_is}
@@ -31,15 +30,15 @@ use Rattle.promises.proofs.Parts as parts
 
 -- ---- the tubes of a mesh
 
-pub stands : (s : List ℕ) (b b' : Buffers) (c : Counts) (k : ℕ) (u : Tube) → Builds s b (Mesh c) b' → TubeAt (tubes_in s) k u
+pub stands : (s : List ℕ) (b b' : Buffers) (c : Counts) (k : ℕ) (u : Tube) → Builds s b (Ok c) b' → TubeAt (tubes_in s) k u
     → TubeStands (protein_in s) u k (vertex_sum (take k (tubes_in s))) (triangle_sum (take k (tubes_in s))) b'.outs
 stands s b b' c k u B at = parts.stands (protein_in s) (tubes_in s) b.outs b'.outs k u (list_long_of s (head_of s)) (meshed s b b' c B).holds at
 
 -- K of a mesh is its list's length
-pub long : (s : List ℕ) (b b' : Buffers) (c : Counts) → Builds s b (Mesh c) b' → c.tubes ≡ length (tubes_in s)
+pub long : (s : List ℕ) (b b' : Buffers) (c : Counts) → Builds s b (Ok c) b' → c.tubes ≡ length (tubes_in s)
 long s b b' c B = ap (λ (n : Counts). n.tubes) (meshed s b b' c B).counts
 
-pub there : (s : List ℕ) (b b' : Buffers) (c : Counts) → Builds s b (Mesh c) b' → (k : ℕ) → k < c.tubes → (u : Tube) × TubeAt (tubes_in s) k u
+pub there : (s : List ℕ) (b b' : Buffers) (c : Counts) → Builds s b (Ok c) b' → (k : ℕ) → k < c.tubes → (u : Tube) × TubeAt (tubes_in s) k u
 there s b b' c B k h = parts.there (tubes_in s) k (omega (arith, long s b b' c B))
 
 pub next : (s : List ℕ) (k : ℕ) (u : Tube) → TubeAt (tubes_in s) k u
@@ -47,14 +46,14 @@ pub next : (s : List ℕ) (k : ℕ) (u : Tube) → TubeAt (tubes_in s) k u
     × (triangle_sum (take (suc k) (tubes_in s)) ≡ triangle_sum (take k (tubes_in s)) + triangles_of u)
 next s k u at = (parts.vertices_on (tubes_in s) k u at (list_long_of s (head_of s)), parts.triangles_on (tubes_in s) k u at (list_long_of s (head_of s)))
 
-pub ends : (s : List ℕ) (b b' : Buffers) (c : Counts) → Builds s b (Mesh c) b'
+pub ends : (s : List ℕ) (b b' : Buffers) (c : Counts) → Builds s b (Ok c) b'
     → (vertex_sum (take c.tubes (tubes_in s)) ≡ c.vertices) × (triangle_sum (take c.tubes (tubes_in s)) ≡ c.triangles)
 ends s b b' c B =
     let e = (meshed s b b' c B).counts in
     let a : take c.tubes (tubes_in s) ≡ tubes_in s = take_all c.tubes (tubes_in s) (omega (arith, long s b b' c B)) in
     (ap vertex_sum a ∙ sym (ap (λ (n : Counts). n.vertices) e), ap triangle_sum a ∙ sym (ap (λ (n : Counts). n.triangles) e))
 
-pub closed : (s : List ℕ) (b b' : Buffers) (c : Counts) → Builds s b (Mesh c) b'
+pub closed : (s : List ℕ) (b b' : Buffers) (c : Counts) → Builds s b (Ok c) b'
     → Sound 0 c.vertices c.triangles (take (3 * c.triangles) b'.outs.triangles)
 closed s b b' c B =
     let M = meshed s b b' c B in
@@ -67,29 +66,29 @@ closed s b b' c B =
 still : (s : List ℕ) (c d : Scratch) → NoLess c d → Buildable s c → Buildable s d
 still s c d N R = record { passes = R.passes; scratch = enough_more s c d N R.scratch; limit = R.limit }
 
-pub then_build : (s : List ℕ) (k : ℕ) (c c' : Scratch) (n : Counts) (f : Five) (b b' : Buffers) (r : Built)
-    → Plans s k c (Plan n f) c' → NoLess c b.scratch → RoomFor b.outs n → Builds s b r b' → r ≡ Mesh n
+pub then_build : (s : List ℕ) (k : ℕ) (c c' : Scratch) (n : Counts) (f : Five) (b b' : Buffers) (r : Result Counts Refusal)
+    → Plans s k c (Ok (with_words n f)) c' → NoLess c b.scratch → RoomFor b.outs n → Builds s b r b' → r ≡ Ok n
 then_build s k c c' n f b b' r P N room B =
     let p = planned s k c c' n f P in
-    built_is B ∙ built s b (still s c b.scratch N p.0) (subst (RoomFor b.outs) p.1 room) ∙ ap Mesh (sym p.1)
+    built_is B ∙ built s b (still s c b.scratch N p.0) (subst (RoomFor b.outs) p.1 room) ∙ ap Ok (sym p.1)
 
 -- and without that room is refused
-pub then_refused : (s : List ℕ) (k : ℕ) (c c' : Scratch) (n : Counts) (f : Five) (b b' : Buffers) (r : Built)
-    → Plans s k c (Plan n f) c' → NoLess c b.scratch → Shorter b.outs n → Builds s b r b'
-    → r ≡ NoMesh (NoRoom n.tubes n.vertices n.triangles)
+pub then_refused : (s : List ℕ) (k : ℕ) (c c' : Scratch) (n : Counts) (f : Five) (b b' : Buffers) (r : Result Counts Refusal)
+    → Plans s k c (Ok (with_words n f)) c' → NoLess c b.scratch → Shorter b.outs n → Builds s b r b'
+    → r ≡ Err (NoRoom n.tubes n.vertices n.triangles)
 then_refused s k c c' n f b b' r P N h B =
     let p = planned s k c c' n f P in
     built_is B ∙ unbuilt s b (still s c b.scratch N p.0) (subst (Shorter b.outs) p.1 h)
-    ∙ ap (λ (m : Counts). NoMesh (NoRoom m.tubes m.vertices m.triangles)) (sym p.1)
+    ∙ ap (λ (m : Counts). Err (NoRoom m.tubes m.vertices m.triangles)) (sym p.1)
 
 -- who was refused for room, and lends it, gets the mesh
-pub room_then : (s : List ℕ) (b b' d d' : Buffers) (k v t : ℕ) (r : Built) → Builds s b (NoMesh (NoRoom k v t)) b' → NoLess b.scratch d.scratch
-    → RoomFor d.outs (record { tubes = k; vertices = v; triangles = t }) → Builds s d r d' → r ≡ Mesh (record { tubes = k; vertices = v; triangles = t })
+pub room_then : (s : List ℕ) (b b' d d' : Buffers) (k v t : ℕ) (r : Result Counts Refusal) → Builds s b (Err (NoRoom k v t)) b' → NoLess b.scratch d.scratch
+    → RoomFor d.outs (record { tubes = k; vertices = v; triangles = t }) → Builds s d r d' → r ≡ Ok (record { tubes = k; vertices = v; triangles = t })
 room_then s b b' d d' k v t r B N room D =
     let M = for_room s b b' k v t B in
     let n : Counts = record { tubes = k; vertices = v; triangles = t } in
     let e : n ≡ counts_of (tubes_in s) = rw (M.1.0, M.1.1, M.1.2) in
-    built_is D ∙ built s d (still s b.scratch d.scratch N M.0) (subst (RoomFor d.outs) e room) ∙ ap Mesh (sym e)
+    built_is D ∙ built s d (still s b.scratch d.scratch N M.0) (subst (RoomFor d.outs) e room) ∙ ap Ok (sym e)
 
 -- past the list there are no words
 past : (v t : ℕ) (us : List Tube) (k : ℕ) → length us ≤ k → words_at v t us k ≡ no_words
@@ -98,7 +97,7 @@ past v t [] k h = refl
 past v t (u ∷ us) zero h = absurd (omega arith)
 past v t (u ∷ us) (suc k) h = past (v + vertex_count (size_of u)) (t + triangle_count (size_of u)) us k (omega arith)
 
-pub words : (s : List ℕ) (k : ℕ) (c c' : Scratch) (n m : Counts) (f : Five) (b b' : Buffers) → Plans s k c (Plan n f) c' → Builds s b (Mesh m) b'
+pub words : (s : List ℕ) (k : ℕ) (c c' : Scratch) (n m : Counts) (f : Five) (b b' : Buffers) → Plans s k c (Ok (with_words n f)) c' → Builds s b (Ok m) b'
     → (n ≡ m) × (k < m.tubes → Stands b'.outs.tubes (5 * k) 5 (five_words f)) × (m.tubes ≤ k → f ≡ no_words)
 words s k c c' n m f b b' P B =
     let p = planned s k c c' n f P in
@@ -116,7 +115,7 @@ words s k c c' n m f b b' P B =
 
 -- ---- the tube call on what build wrote
 
-pub part : (s : List ℕ) (b b' : Buffers) (c : Counts) (k : ℕ) (u : Tube) (p : List ℕ) → Builds s b (Mesh c) b' → TubeAt (tubes_in s) k u
+pub part : (s : List ℕ) (b b' : Buffers) (c : Counts) (k : ℕ) (u : Tube) (p : List ℕ) → Builds s b (Ok c) b' → TubeAt (tubes_in s) k u
     → Tubed b'.outs.tubes b'.outs.triangles k p
     → (p ≡ tube_triangles (vertex_sum (take k (tubes_in s))) u)
     × Sound (vertex_sum (take k (tubes_in s))) (vertex_sum (take k (tubes_in s)) + vertices_of u) (triangles_of u) p

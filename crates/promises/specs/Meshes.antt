@@ -1,10 +1,9 @@
 -- What the theorems of proofs/Demands say of jobs, buffers and meshes, in the words of the demands.
-use Rattle.std.specs.Prelude.{ℕ, suc, ◌+◌, ◌-◌, ◌*◌, ◌<◌, ◌≤◌, List, ◌∷◌, ◌++◌, ◌⊎◌, ◌≡◌, length, take, drop}
+use Rattle.std.specs.Prelude.{ℕ, suc, ◌+◌, ◌-◌, ◌*◌, ◌<◌, ◌≤◌, List, ◌∷◌, ◌++◌, ◌⊎◌, ◌≡◌, length, take, drop, Ok}
 use Rattle.edges.specs.Sound.{Sound}
 use Rattle.protein.specs.Layout.{head_of}
 use Rattle.protein.specs.Protein.{Protein, protein_of}
 use Rattle.job.specs.Check.{check}
-use Rattle.job.specs.declared.Checked.TheVariants.{Fine}
 use Rattle.tubes.specs.Tubes.{Tube}
 use Rattle.mesh.specs.Mesh.{size_of, tube_positions, tube_normals, tube_tags, tube_triangles, tube_words, tube_box, vertex_sum, triangle_sum, mesh_positions, mesh_normals, mesh_tags, mesh_triangles, mesh_words, mesh_boxes}
 use Rattle.buffers.specs.Outs.{Outs, Room}
@@ -23,7 +22,7 @@ tubes_in s = job_tubes s (head_of s)
 
 -- 'past every check before 9'
 abbrev pub Passes : List ℕ → Type 0
-Passes s = check s ≡ Fine (head_of s)
+Passes s = check s ≡ Ok (head_of s)
 
 -- 'with enough scratch'
 pub record Enough (s : List ℕ) (c : Scratch) : Type 0 where

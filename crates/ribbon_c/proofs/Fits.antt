@@ -24,9 +24,8 @@ use Rattle.stl_reader.specs.Call.{Lists, ReadsStl}
 use Rattle.stl_reader.proofs.Demands.{list_determined, count_below, asked_below}
 use Rattle.room.specs.Room.{Scratch, Buffers}
 use Rattle.room.proofs.Laws.{buffers_same}
-use Rattle.promises.specs.declared.Built.TheVariants.{Mesh, NoMesh}
-use Rattle.promises.specs.declared.Planned.TheVariants.{Plan, NoPlan}
-use Rattle.promises.specs.Calls.{built_numbers, Builds, Plans}
+use Rattle.std.specs.Prelude.{Ok, Err}
+use Rattle.promises.specs.Calls.{built_numbers, Builds, Plans, with_words}
 use Rattle.promises.specs.Meshes.{tubes_in}
 use Rattle.promises.proofs.Tubes.{AllLong, list_long_of, long_sums}
 use Rattle.promises.proofs.Checks.{passes_by}
@@ -78,11 +77,11 @@ records_words_determined A D = (
 -- ---- from the reader to the builder: a job that was read is refused by no check before 9
 
 pub read_then_build : {s out out' : List ℕ} {n : ℕ} {b b' : Buffers} {q : Refusal}
-    → Reads s out (Ok n) out' → Builds (take n out') b (NoMesh q) b' → 9 ≤ number_of q
+    → Reads s out (Ok n) out' → Builds (take n out') b (Err q) b' → 9 ≤ number_of q
 read_then_build R B = past_checks (passes_by _ _ (buffer_passes R)) B
 
 pub read_then_plan : {s out out' : List ℕ} {n k : ℕ} {c c' : Scratch} {q : Refusal}
-    → Reads s out (Ok n) out' → Plans (take n out') k c (NoPlan q) c' → 9 ≤ number_of q
+    → Reads s out (Ok n) out' → Plans (take n out') k c (Err q) c' → 9 ≤ number_of q
 read_then_plan R P = plan_past_checks (passes_by _ _ (buffer_passes R)) P
 
 -- ---- no count is cut
@@ -98,21 +97,21 @@ counts_fit us long v =
     rw (word_same (length us) (omega arith), word_same (vertex_sum us) (omega arith), word_same (triangle_sum us) (omega arith))
 
 -- so the words of a mesh's answer are its numbers
-pub mesh_fits : {s : List ℕ} {b b' : Buffers} {c : Counts} → Builds s b (Mesh c) b' → words_of (built_numbers (Mesh c)) ≡ built_numbers (Mesh c)
+pub mesh_fits : {s : List ℕ} {b b' : Buffers} {c : Counts} → Builds s b (Ok c) b' → words_of (built_numbers (Ok c)) ≡ built_numbers (Ok c)
 mesh_fits {s} B =
     let A = accepted B in
     rw A.2 (ap (λ (x : List ℕ). 0 ∷ x) (counts_fit (tubes_in s) (list_long_of s (head_of s)) A.0.limit))
 
 -- and so are K, V and T of a plan
-pub plan_fits : {s : List ℕ} {k : ℕ} {c c' : Scratch} {n : Counts} {f : Five} → Plans s k c (Plan n f) c'
+pub plan_fits : {s : List ℕ} {k : ℕ} {c c' : Scratch} {n : Counts} {f : Five} → Plans s k c (Ok (with_words n f)) c'
     → words_of (n.tubes ∷ n.vertices ∷ n.triangles ∷ []) ≡ n.tubes ∷ n.vertices ∷ n.triangles ∷ []
 plan_fits {s} P =
     let A = plan_accepted P in
     rw A.1 (counts_fit (tubes_in s) (list_long_of s (head_of s)) A.0.limit)
 
 -- and so are those of refusal 11
-pub room_fits : {s : List ℕ} {b b' : Buffers} {k v t : ℕ} → Builds s b (NoMesh (NoRoom k v t)) b'
-    → words_of (built_numbers (NoMesh (NoRoom k v t))) ≡ built_numbers (NoMesh (NoRoom k v t))
+pub room_fits : {s : List ℕ} {b b' : Buffers} {k v t : ℕ} → Builds s b (Err (NoRoom k v t)) b'
+    → words_of (built_numbers (Err (NoRoom k v t))) ≡ built_numbers (Err (NoRoom k v t))
 room_fits {s} B =
     let M = room_means B in
     rw (M.1.0, M.1.1, M.1.2) (ap (λ (x : List ℕ). 11 ∷ x) (counts_fit (tubes_in s) (list_long_of s (head_of s)) M.0.limit))

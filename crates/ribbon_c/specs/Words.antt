@@ -10,8 +10,8 @@ use Rattle.stl_reader.specs.Call.{Lists, ReadsStl}
 use Rattle.shares.specs.declared.Share.{Share}
 use Rattle.shares.specs.declared.Shares.{Shares}
 use Rattle.room.specs.Room.{Scratch, Buffers}
-use Rattle.promises.specs.declared.Built.{Built}
-use Rattle.promises.specs.declared.Planned.{Planned}
+use Rattle.job.specs.declared.Refusal.{Refusal}
+use Rattle.promises.specs.declared.Plan.{Plan}
 use Rattle.promises.specs.Calls.{built_numbers, planned_numbers, Builds, Plans}
 use Rattle.party_promises.specs.Calls.{BuildsShare, PlansRecords}
 
@@ -25,13 +25,13 @@ words_of (n ∷ l) = word_of n ∷ words_of l
 
 -- ribbon_build, of a job's bytes s with the buffers b lent, leaves the words a in the answer's place and the buffers as b'
 pub record BuildsWords (s : List ℕ) (b : Buffers) (a : List ℕ) (b' : Buffers) : Type 0 where
-  pub answer : Built
+  pub answer : Result Counts Refusal
   pub promise : Builds s b answer b'
   pub words : a ≡ words_of (built_numbers answer)
 
 -- ribbon_plan, of a job's bytes s and a tube number k with the scratch c lent
 pub record PlansWords (s : List ℕ) (k : ℕ) (c : Scratch) (a : List ℕ) (c' : Scratch) : Type 0 where
-  pub answer : Planned
+  pub answer : Result Plan Refusal
   pub promise : Plans s k c answer c'
   pub words : a ≡ words_of (planned_numbers answer)
 
@@ -71,12 +71,12 @@ shares_at l i = record {
 -- ribbon_build_share, of a shared job's bytes s, the caller's records q and the shares n, the caller's twelve numbers and then the other's, with the whole
 -- buffers b lent
 pub record BuildsShareWords (s q n : List ℕ) (b : Buffers) (a : List ℕ) (b' : Buffers) : Type 0 where
-  pub answer : Built
+  pub answer : Result Counts Refusal
   pub promise : BuildsShare s q (shares_at n 0) (shares_at n 12) b answer b'
   pub words : a ≡ words_of (built_numbers answer)
 
 -- ribbon_plan_records, of a shared job's bytes s, the caller's records q and a tube number k with the scratch c lent
 pub record PlansRecordsWords (s q : List ℕ) (k : ℕ) (c : Scratch) (a : List ℕ) (c' : Scratch) : Type 0 where
-  pub answer : Planned
+  pub answer : Result Plan Refusal
   pub promise : PlansRecords s q k c answer c'
   pub words : a ≡ words_of (planned_numbers answer)

@@ -13,7 +13,7 @@ ghost use Rattle.ribbon_c.specs.Words.{share_at, shares_at, BuildsShareWords, Pl
 
 use buffers::Counts;
 use job::Refusal;
-use promises::{Built, Planned};
+use promises::Plan;
 use shares::{Share, Shares};
 
 fn word(n: usize) -> u32
@@ -29,31 +29,31 @@ fn refusal_words(r: Refusal) -> [u32; 4]
     [word(n[0]), word(n[1]), word(n[2]), word(n[3])]
 }
 
-fn built_words(a: Built) -> [u32; 4]
+fn built_words(a: Result<Counts, Refusal>) -> [u32; 4]
     ensures { result ≡ words_of (built_numbers a) }
 {
     match a {
-        Built::Mesh(c) => [0, word(c.tubes), word(c.vertices), word(c.triangles)],
-        Built::NoMesh(r) => refusal_words(r),
+        Ok(c) => [0, word(c.tubes), word(c.vertices), word(c.triangles)],
+        Err(r) => refusal_words(r),
     }
 }
 
-fn planned_words(a: Planned) -> [u32; 9]
+fn planned_words(a: Result<Plan, Refusal>) -> [u32; 9]
     ensures { result ≡ words_of (planned_numbers a) }
 {
     match a {
-        Planned::Plan(c, f) => [
+        Ok(p) => [
             0,
-            word(c.tubes),
-            word(c.vertices),
-            word(c.triangles),
-            word(f.kind),
-            word(f.first),
-            word(f.length),
-            word(f.vertex),
-            word(f.triangle),
+            word(p.counts.tubes),
+            word(p.counts.vertices),
+            word(p.counts.triangles),
+            word(p.words.kind),
+            word(p.words.first),
+            word(p.words.length),
+            word(p.words.vertex),
+            word(p.words.triangle),
         ],
-        Planned::NoPlan(r) => {
+        Err(r) => {
             let w = refusal_words(r);
             [w[0], w[1], w[2], w[3], 0, 0, 0, 0, 0]
         }

@@ -2,7 +2,6 @@
 #![tactic(auto)]
 
 use files::Source;
-use promises::Planned;
 use std::io::Stdout;
 use words::Else;
 
@@ -19,14 +18,15 @@ fn print(to: Stdout, line: &[u8]) -> bool {
 fn print_tube(to: Stdout, job: &[u8], k: usize, words: &mut [u32], floats: &mut [f32]) -> bool {
     let a = ribbon::plan(job, k, words, floats);
     match a {
-        Planned::Plan(_, f) => {
+        Ok(plan) => {
+            let f = plan.words;
             let mut line = [0u8; 256];
             let n = ribbon_text::tube_line(
                 &mut line, k, f.kind, f.first, f.length, f.vertex, f.triangle,
             );
             print(to, &line[..n])
         }
-        Planned::NoPlan(_) => false,
+        Err(_) => false,
     }
 }
 
@@ -52,14 +52,15 @@ fn print_plan(to: Stdout, job: &[u8], words: &mut [u32], floats: &mut [f32]) -> 
     let mut line = [0u8; 256];
     let a = ribbon::plan(job, 0, words, floats);
     match a {
-        Planned::Plan(c, _) => {
+        Ok(plan) => {
+            let c = plan.counts;
             let n = ribbon_text::totals_line(&mut line, c.tubes, c.vertices, c.triangles);
             if !print(to, &line[..n]) {
                 return false;
             }
             print_tubes(to, job, c.tubes, words, floats)
         }
-        Planned::NoPlan(r) => {
+        Err(r) => {
             let n = ribbon_text::refused_line(&mut line, r);
             print(to, &line[..n]);
             words::explain(r);

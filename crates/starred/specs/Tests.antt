@@ -1,6 +1,6 @@
 -- What a bench case of 01 says, as a test that computes, over the definitions that the promises of the calls use. `Case` has one case for each test; Table has
 -- the cases. The `unfolding` lines are for antt alone, which computes the tests.
-use Rattle.std.specs.Prelude.{ℕ, suc, ◌+◌, ◌*◌, Bool, true, false, not, ◌&&◌, List, [], ◌∷◌, map, eqb, length, take, drop}
+use Rattle.std.specs.Prelude.{ℕ, suc, ◌+◌, ◌*◌, Bool, true, false, not, ◌&&◌, List, [], ◌∷◌, map, eqb, length, take, drop, Result, Ok, Err}
 use Rattle.std.specs.Float.{binary32, binary64}
 use Rattle.std.specs.Float.Ieee.{to_bits, of_bits, eq}
 use Rattle.floats.specs.Floats.{narrowed, root}
@@ -19,8 +19,9 @@ use Rattle.smooth.specs.Pass.{vectors, smooth_guides, smooth_positions}
 use Rattle.curve.specs.Samples.{span_at, param_at}
 use Rattle.job.specs.Check.{check}
 use Rattle.job.specs.Refusals.{number_of, carried}
-use Rattle.job.specs.declared.Checked.{Checked}
-use Rattle.job.specs.declared.Checked.TheVariants.{Fine, Refused}
+use Rattle.job.specs.declared.Refusal.{Refusal}
+use Rattle.buffers.specs.declared.Counts.{Counts}
+use Rattle.promises.specs.declared.Plan.{Plan}
 use Rattle.boxes.specs.Box.{along, foremost, foremost_of, box_of}
 use Rattle.skin.specs.Tube.{tags_of}
 use Rattle.tubes.specs.Tubes.{Tube}
@@ -30,10 +31,6 @@ use Rattle.mesh.specs.Mesh.{box_by, tube_box, mesh_positions, mesh_normals, mesh
 use Rattle.buffers.specs.Outs.{sizes, tight}
 use Rattle.room.specs.Room.{Lent, short_scratch, too_many}
 use Rattle.promises.specs.Calls.{tubes_with, job_tubes, words_at, build_checks, build_answer, plan_checks, plan_answer}
-use Rattle.promises.specs.declared.Built.{Built}
-use Rattle.promises.specs.declared.Built.TheVariants.{Mesh, NoMesh}
-use Rattle.promises.specs.declared.Planned.{Planned}
-use Rattle.promises.specs.declared.Planned.TheVariants.{Plan, NoPlan}
 use Rattle.starred.specs.Opened.{opens_floats, opens_corners, opens_tubes, opens_course, opens_skin, opens_mesh}
 
 -- ---- a job
@@ -44,9 +41,9 @@ unfolding same_list
 is_written s n front = eqb (length s) n && same_list (take (length front) s) front
 
 -- a test of the counts of a job that passes checks 1 to 8
-abbrev if_fine : Checked → (Head → Bool) → Bool
-if_fine (Fine h) t = t h
-if_fine (Refused r) t = false
+abbrev if_fine : Result Head Refusal → (Head → Bool) → Bool
+if_fine (Ok h) t = t h
+if_fine (Err r) t = false
 
 -- ---- its tubes
 
@@ -84,13 +81,13 @@ tubes_are s us = if_fine (check s) (λ h. same_tubes (job_tubes s h) us)
 abbrev pub room_for : ℕ → ℕ → ℕ → ℕ → Lent
 room_for v t k r = record { outs = sizes (3 * v) (3 * v) v (3 * t) (5 * k) (6 * k); words = 8 * r; floats = 32 * r }
 
-abbrev is_mesh : Built → List ℕ → Bool
-is_mesh (Mesh c) l = same_list (c.tubes ∷ c.vertices ∷ c.triangles ∷ []) l
-is_mesh (NoMesh r) l = false
+abbrev is_mesh : Result Counts Refusal → List ℕ → Bool
+is_mesh (Ok c) l = same_list (c.tubes ∷ c.vertices ∷ c.triangles ∷ []) l
+is_mesh (Err r) l = false
 
-abbrev is_no_mesh : Built → ℕ → List ℕ → Bool
-is_no_mesh (Mesh c) n l = false
-is_no_mesh (NoMesh r) n l = eqb n (number_of r) && same_list (carried r) l
+abbrev is_no_mesh : Result Counts Refusal → ℕ → List ℕ → Bool
+is_no_mesh (Ok c) n l = false
+is_no_mesh (Err r) n l = eqb n (number_of r) && same_list (carried r) l
 
 -- '350 succeeds': with this room build makes a mesh of these K, V and T
 unfoldable pub builds : List ℕ → Lent → List ℕ → Bool
@@ -102,17 +99,17 @@ unfoldable pub refuses : List ℕ → Lent → ℕ → List ℕ → Bool
 unfolding same_list build_answer build_checks short_scratch too_many tight tubes_with opens_tubes
 refuses s room n l = is_no_mesh (build_answer s room) n l
 
-abbrev has_totals : Planned → List ℕ → Bool
-has_totals (Plan c w) l = same_list (c.tubes ∷ c.vertices ∷ c.triangles ∷ []) l
-has_totals (NoPlan r) l = false
+abbrev has_totals : Result Plan Refusal → List ℕ → Bool
+has_totals (Ok p) l = same_list (p.counts.tubes ∷ p.counts.vertices ∷ p.counts.triangles ∷ []) l
+has_totals (Err r) l = false
 
-abbrev has_words : Planned → List ℕ → Bool
-has_words (Plan c w) five = same_list (w.kind ∷ w.first ∷ w.length ∷ w.vertex ∷ w.triangle ∷ []) five
-has_words (NoPlan r) five = false
+abbrev has_words : Result Plan Refusal → List ℕ → Bool
+has_words (Ok p) five = same_list (p.words.kind ∷ p.words.first ∷ p.words.length ∷ p.words.vertex ∷ p.words.triangle ∷ []) five
+has_words (Err r) five = false
 
-abbrev is_no_plan : Planned → ℕ → List ℕ → Bool
-is_no_plan (Plan c w) n l = false
-is_no_plan (NoPlan r) n l = eqb n (number_of r) && same_list (carried r) l
+abbrev is_no_plan : Result Plan Refusal → ℕ → List ℕ → Bool
+is_no_plan (Ok p) n l = false
+is_no_plan (Err r) n l = eqb n (number_of r) && same_list (carried r) l
 
 -- 'K, V, T all 0', 'V 350, T 688': plan answers these K, V and T
 unfoldable pub totals_are : List ℕ → ℕ → List ℕ → Bool

@@ -22,7 +22,7 @@ use Rattle.job.proofs.Accepted.{kind_few}
 use Rattle.buffers.specs.declared.Counts.{Counts}
 use Rattle.buffers.specs.Outs.{Outs, Room}
 use Rattle.room.specs.Room.{Buffers}
-use Rattle.promises.specs.declared.Built.TheVariants.{Mesh}
+use Rattle.std.specs.Prelude.{Ok}
 use Rattle.promises.specs.Calls.{tubes_with, Builds}
 use Rattle.promises.specs.Meshes.{protein_in, tubes_in, TubeAt, TubeStands, vertices_of, triangles_of}
 use Rattle.promises.proofs.Tubes.{list_long_of}
@@ -44,7 +44,7 @@ mem_at (v ∷ us) zero u e = Memᴰ.head (sym (ap (λ (l : List Tube). headed l 
     headed (y ∷ l) x = y
 mem_at (v ∷ us) (suc k) u e = Memᴰ.tail (mem_at us k u e)
 
-module _ {s : List ℕ} {b b' : Buffers} {c : Counts} (B : Builds s b (Mesh c) b') where
+module _ {s : List ℕ} {b b' : Buffers} {c : Counts} (B : Builds s b (Ok c) b') where
   abbrev us : List Tube
   us = tubes_in s
 

@@ -14,7 +14,7 @@ use Rattle.job.specs.declared.Refusal.TheVariants.{NoStlRoom}
 use Rattle.buffers.specs.declared.Counts.{Counts}
 use Rattle.buffers.specs.Outs.{Outs}
 use Rattle.room.specs.Room.{Buffers}
-use Rattle.promises.specs.declared.Built.TheVariants.{Mesh}
+use Rattle.std.specs.Prelude.{Ok}
 use Rattle.promises.specs.Calls.{Builds}
 use Rattle.consistency.specs.Consistent.{consistent}
 use Rattle.facets.specs.Facets.{facets_of, stl_head, stl_size}
@@ -30,18 +30,18 @@ use Rattle.stl_theorems.proofs.Again.{listed_again, only_room, words_again}
 
 -- its buffers are consistent, with the K, V and T that build answered
 pub built_consistent : {s : List ℕ} {b b' : Buffers} {c : Counts}
-    → Builds s b (Mesh c) b' → consistent 8 8 b'.outs c ≡ true
+    → Builds s b (Ok c) b' → consistent 8 8 b'.outs c ≡ true
 built_consistent B = consistent_built B
 
 -- so with 84 + 50T bytes it is always written, whole and at the front
 pub built_written : {s out out' : List ℕ} {b b' : Buffers} {c : Counts} {r : Result ℕ Refusal}
-    → Builds s b (Mesh c) b' → stl_size c.triangles ≤ length out → WritesStl 8 8 b'.outs c out r out'
+    → Builds s b (Ok c) b' → stl_size c.triangles ≤ length out → WritesStl 8 8 b'.outs c out r out'
     → (r ≡ Ok (stl_size c.triangles)) × (take (stl_size c.triangles) out' ≡ file_of b'.outs c)
 built_written B h W = written (consistent_built B) h W
 
 -- and with fewer it is refused by 18, which carries that size
 pub built_short : {s out out' : List ℕ} {b b' : Buffers} {c : Counts} {r : Result ℕ Refusal}
-    → Builds s b (Mesh c) b' → length out < stl_size c.triangles → WritesStl 8 8 b'.outs c out r out'
+    → Builds s b (Ok c) b' → length out < stl_size c.triangles → WritesStl 8 8 b'.outs c out r out'
     → r ≡ Err (NoStlRoom (stl_size c.triangles))
 built_short B h W = short (consistent_built B) h W
 

@@ -1,27 +1,33 @@
+use mathlib.Core.Path.{◌∙◌}
 use Rattle.job.specs.Check.{contents}
-use Rattle.job.proofs.Laws.{or_first_pos, or_first_zero}
+use Rattle.job.proofs.Laws.{or_first_some, or_first_none}
 use Rattle.job.proofs.check_contents.Goals as goal
 
-pub returns-then-v-gt0 : goal.returns-then-v-gt0
+pub returns-in-Some : goal.returns-in-Some
 unfolding contents
-returns-then-v-gt0 c = let h1 = c.if-v-gt0.true in simp (← c.find_visibility-v.ensures, or_first_pos)
+returns-in-Some c = or_first_some _ _ _ _ c.in-Some.ensures
 
-pub returns-then-k-gt0 : goal.returns-then-k-gt0
+pub returns-in-Some-find_kind : goal.returns-in-Some-find_kind
 unfolding contents
-returns-then-k-gt0 c = let h1 = c.if-v-gt0.false in let h2 = c.if-k-gt0.true in
-    simp (← c.find_visibility-v.ensures, ← c.find_kind-k.ensures, or_first_zero, or_first_pos)
+returns-in-Some-find_kind c = or_first_some _ _ _ _ c.in-Some-find_kind.ensures ∙ or_first_none _ _ _ c.in_default.ensures
 
-pub returns-then-a-gt0 : goal.returns-then-a-gt0
+pub returns-in-Some-find_atom : goal.returns-in-Some-find_atom
 unfolding contents
-returns-then-a-gt0 c = let h1 = c.if-v-gt0.false in let h2 = c.if-k-gt0.false in let h3 = c.if-a-gt0.true in
-    simp (← c.find_visibility-v.ensures, ← c.find_kind-k.ensures, ← c.find_atom-a.ensures, or_first_zero, or_first_pos)
+returns-in-Some-find_atom c =
+    or_first_some _ _ _ _ c.in-Some-find_atom.ensures ∙ or_first_none _ _ _ c.in_default-find_kind.ensures ∙ or_first_none _ _ _ c.in_default.ensures
 
-pub returns-then-x-gt0 : goal.returns-then-x-gt0
+pub returns-in-Some-find_coordinate : goal.returns-in-Some-find_coordinate
 unfolding contents
-returns-then-x-gt0 c = let h1 = c.if-v-gt0.false in let h2 = c.if-k-gt0.false in let h3 = c.if-a-gt0.false in let h4 = c.if-x-gt0.true in
-    simp (← c.find_visibility-v.ensures, ← c.find_kind-k.ensures, ← c.find_atom-a.ensures, ← c.find_coordinate-x.ensures, or_first_zero, or_first_pos)
+returns-in-Some-find_coordinate c =
+    or_first_some _ _ _ _ c.in-Some-find_coordinate.ensures
+    ∙ or_first_none _ _ _ c.in_default-find_atom.ensures
+    ∙ or_first_none _ _ _ c.in_default-find_kind.ensures
+    ∙ or_first_none _ _ _ c.in_default.ensures
 
 pub returns : goal.returns
 unfolding contents
-returns c = let h1 = c.if-v-gt0.false in let h2 = c.if-k-gt0.false in let h3 = c.if-a-gt0.false in let h4 = c.if-x-gt0.false in
-    simp (← c.find_visibility-v.ensures, ← c.find_kind-k.ensures, ← c.find_atom-a.ensures, ← c.find_coordinate-x.ensures, or_first_zero)
+returns c =
+    or_first_none _ _ _ c.in_default-find_coordinate.ensures
+    ∙ or_first_none _ _ _ c.in_default-find_atom.ensures
+    ∙ or_first_none _ _ _ c.in_default-find_kind.ensures
+    ∙ or_first_none _ _ _ c.in_default.ensures

@@ -1,7 +1,6 @@
 use mathlib.Core.Path.{sym, ◌∙◌}
 use Rattle.job.proofs.Laws.{check_whole}
-use borrow.Author.Rules.{rules}
 use Rattle.model.proofs.tell.Goals as goal
 
 pub tell_model-requires : goal.tell_model-requires
-tell_model-requires c = check_whole _ _ (sym c.check_job-a.ensures ∙ c.in-Fine.is)
+tell_model-requires c = check_whole _ _ (sym c.check_job-a.ensures ∙ c.in-Ok.is)

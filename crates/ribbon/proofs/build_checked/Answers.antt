@@ -1,4 +1,4 @@
-use Rattle.promises.specs.declared.Built.TheVariants.{Mesh}
+use Rattle.std.specs.Prelude.{Ok, Err}
 use Prim.Native.Nat.{◌*◌}
 use mathlib.Core.Bool.{true, false}
 use mathlib.Core.Path.{◌≡◌, refl, sym, ◌∙◌, ap}
@@ -50,7 +50,7 @@ returns-then-is_tight c =
     let args = c.args in
     let q : short_scratch args.h (length args.words.now) (length args.floats.now) ≡ false = (sym c.is_short.ensures ∙ c.if-is_short.false) in
     let n = (start_counted args.b.now args.h args.q.now 0 _ c.before_all.ensures _ c.count_all-sum.ensures.0) in
-    (room_is 0 (tubes_with args.b.now args.h args.q.now) _ n ∙ build_tight args.h (tubes_with args.b.now args.h args.q.now) (lent (buffers (outs args.positions.now args.normals.now args.tags.now args.triangles.now args.records.now args.boxes.now) args.words.now args.floats.now)) q (few 0 (tubes_with args.b.now args.h args.q.now) _ n c.if-sum-gt1048576.false) (tight_is 0 (tubes_with args.b.now args.h args.q.now) _ n _ _ _ c.is_tight.ensures c.counts_of.ensures ∙ c.if-is_tight.true), refl, swept args.h _ _ _ _ q (c.clear_scratch-then-is_tight.ensures.0 ∙ zeroed_words (8 * args.h.residues) _ _ c.count_all-sum.ensures.1) c.clear_scratch-then-is_tight.ensures.1)
+    (ap Err (room_is 0 (tubes_with args.b.now args.h args.q.now) _ n) ∙ build_tight args.h (tubes_with args.b.now args.h args.q.now) (lent (buffers (outs args.positions.now args.normals.now args.tags.now args.triangles.now args.records.now args.boxes.now) args.words.now args.floats.now)) q (few 0 (tubes_with args.b.now args.h args.q.now) _ n c.if-sum-gt1048576.false) (tight_is 0 (tubes_with args.b.now args.h args.q.now) _ n _ _ _ c.is_tight.ensures c.counts_of.ensures ∙ c.if-is_tight.true), refl, swept args.h _ _ _ _ q (c.clear_scratch-then-is_tight.ensures.0 ∙ zeroed_words (8 * args.h.residues) _ _ c.count_all-sum.ensures.1) c.clear_scratch-then-is_tight.ensures.1)
 
 pub write_all-t-requires : goal.write_all-t-requires
 write_all-t-requires c =
@@ -74,7 +74,7 @@ returns c =
     let q : short_scratch args.h (length args.words.now) (length args.floats.now) ≡ false = (sym c.is_short.ensures ∙ c.if-is_short.false) in
     let n = (start_counted args.b.now args.h args.q.now 0 _ c.before_all.ensures _ c.count_all-sum.ensures.0) in
     let t = start_walked args.b.now args.h args.q.now 0 _ c.before_all-2.ensures _ (outs args.positions.now args.normals.now args.tags.now args.triangles.now args.records.now args.boxes.now) _ p.boxes_value in (
-      ap Mesh c.counts_of-2.ensures ∙ mesh_is 0 (tubes_with args.b.now args.h args.q.now) _ t ∙ build_mesh args.h (tubes_with args.b.now args.h args.q.now) (lent (buffers (outs args.positions.now args.normals.now args.tags.now args.triangles.now args.records.now args.boxes.now) args.words.now args.floats.now)) q (few 0 (tubes_with args.b.now args.h args.q.now) _ n c.if-sum-gt1048576.false) (tight_is 0 (tubes_with args.b.now args.h args.q.now) _ n _ _ _ c.is_tight.ensures c.counts_of.ensures ∙ c.if-is_tight.false),
+      ap Ok (c.counts_of-2.ensures ∙ mesh_is 0 (tubes_with args.b.now args.h args.q.now) _ t) ∙ build_mesh args.h (tubes_with args.b.now args.h args.q.now) (lent (buffers (outs args.positions.now args.normals.now args.tags.now args.triangles.now args.records.now args.boxes.now) args.words.now args.floats.now)) q (few 0 (tubes_with args.b.now args.h args.q.now) _ n c.if-sum-gt1048576.false) (tight_is 0 (tubes_with args.b.now args.h args.q.now) _ n _ _ _ c.is_tight.ensures c.counts_of.ensures ∙ c.if-is_tight.false),
       filled_of args.b.now args.h args.q.now 0 (outs args.positions.now args.normals.now args.tags.now args.triangles.now args.records.now args.boxes.now) _ _ _ c.before_all-2.ensures p.boxes_value,
       swept args.h _ _ _ _ q (c.clear_scratch-2.ensures.0 ∙ zeroed_words (8 * args.h.residues) _ _ p.kept ∙ zeroed_words (8 * args.h.residues) _ _ c.count_all-sum.ensures.1) (c.clear_scratch-2.ensures.1 ∙ zeroed_past (of_bits binary32 0) (6 * args.h.residues) (32 * args.h.residues) _ _ (omega arith) p.floats_unchanged),
     )

@@ -1,11 +1,11 @@
-use Rattle.promises.specs.declared.Planned.TheVariants.{Plan}
+use Rattle.std.specs.Prelude.{Ok}
 use Rattle.buffers.specs.declared.Counts.{Counts}
 use Prim.Native.Nat.{◌*◌}
 use mathlib.Core.Bool.{true, false}
 use mathlib.Core.Path.{◌≡◌, sym, ◌∙◌, ap}
 use lib.ListN.{length}
 use native.Mathlib.Omega.{arith}
-use Rattle.promises.specs.Calls.{tubes_with}
+use Rattle.promises.specs.Calls.{tubes_with, with_words}
 use Rattle.room.specs.Room.{short_scratch}
 use Rattle.ribbon.proofs.Laws.{kept_at_nine, swept, start_small, start_counted}
 use Rattle.room.proofs.Laws.{long_words, long_floats, zeroed_words}
@@ -42,4 +42,4 @@ returns c =
     let args = c.args in
     let q : short_scratch args.h (length args.words.now) (length args.floats.now) ≡ false = (sym c.is_short.ensures ∙ c.if-is_short.false) in
     let n = (start_counted args.b.now args.h args.q.now args.k _ c.before_all.ensures _ count-all.ensures.0) in
-    (ap (λ (x : Counts). Plan x count-all.result.words) c.counts_of.ensures ∙ plan_is args.k (tubes_with args.b.now args.h args.q.now) _ n ∙ plan_fine args.h (tubes_with args.b.now args.h args.q.now) args.k _ _ q (few args.k (tubes_with args.b.now args.h args.q.now) _ n c.if-sum-gt1048576.false), swept args.h _ _ _ _ q (c.clear_scratch.ensures.0 ∙ zeroed_words (8 * args.h.residues) _ _ count-all.ensures.1) c.clear_scratch.ensures.1)
+    (ap Ok (ap (λ (x : Counts). with_words x count-all.result.words) c.counts_of.ensures ∙ plan_is args.k (tubes_with args.b.now args.h args.q.now) _ n) ∙ plan_fine args.h (tubes_with args.b.now args.h args.q.now) args.k _ _ q (few args.k (tubes_with args.b.now args.h args.q.now) _ n c.if-sum-gt1048576.false), swept args.h _ _ _ _ q (c.clear_scratch.ensures.0 ∙ zeroed_words (8 * args.h.residues) _ _ count-all.ensures.1) c.clear_scratch.ensures.1)

@@ -1,8 +1,7 @@
-use borrow.Author.Rules.{rules}
 use Rattle.ribbon_c.proofs.planned_words.Goals as goal
 
-pub returns-in-Plan : goal.returns-in-Plan
-returns-in-Plan c = rw (c.word-in-Plan-7.ensures, c.word-in-Plan-6.ensures, c.word-in-Plan-5.ensures, c.word-in-Plan-4.ensures, c.word-in-Plan-3.ensures, c.word-in-Plan-2.ensures, c.word-in-Plan.ensures, c.word.ensures, c.in-Plan.is)
+pub returns-in-Ok : goal.returns-in-Ok
+returns-in-Ok c = rw (c.word-in-Ok-7.ensures, c.word-in-Ok-6.ensures, c.word-in-Ok-5.ensures, c.word-in-Ok-4.ensures, c.word-in-Ok-3.ensures, c.word-in-Ok-2.ensures, c.word-in-Ok.ensures, c.word.ensures, c.in-Ok.is)
 
-pub returns-in-NoPlan : goal.returns-in-NoPlan
-returns-in-NoPlan c = rw (c.refusal_words-w.ensures, c.in-NoPlan.is)
+pub returns-in-Err : goal.returns-in-Err
+returns-in-Err c = rw (c.refusal_words-w.ensures, c.in-Err.is)
