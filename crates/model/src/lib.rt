@@ -13,13 +13,13 @@ use job::{Checked, Refusal};
 use pdb_reader::Read;
 use promises::Built;
 use protein::Head;
-use std::io::Stdout;
+use std::io::{Error, Stdout};
 use words::Else;
 
-// How it went. Short: the lent room is too short, which was not said, since the caller has more.
-#[derive(Drop)]
-pub enum Made {
-    Written,
+// Why no model was made. Short: the lent room is too short, which was not said, since the caller has more. The others were said: the file is refused, or the model
+// could not be written.
+#[derive(Clone, Copy)]
+pub enum Unmade {
     Refused,
     Failed,
     Short,
@@ -46,12 +46,12 @@ fn is_short(r: Refusal, more: bool) -> bool {
 }
 
 // Why a file has no job.
-fn refuse(file: &[u8], r: Refusal, more: bool) -> Made {
+fn refuse(file: &[u8], r: Refusal, more: bool) -> Result<(), Unmade> {
     if is_short(r, more) {
-        return Made::Short;
+        return Err(Unmade::Short);
     }
     pdb_notes::tell_refused(file, r);
-    Made::Refused
+    Err(Unmade::Refused)
 }
 
 // The facets of a mesh, block after block.
@@ -60,21 +60,24 @@ fn send_facets(
     positions: &[f32],
     triangles: &[u32],
     block: &mut [u8],
-) -> Result<(), i32>
+) -> Result<(), Error>
     requires { Drawn positions.now triangles.now × (50000 ≤ length block.old) }
 {
     let t = triangles.len() / 3;
-    let mut i = 0;
-    while 1000 * i < t {
+    for i in 0..t.div_ceil(1000) {
         let n = blocks::put_block(block, positions, triangles, i);
         files::write(to, &block[..n])?;
-        i += 1;
     }
     Ok(())
 }
 
-// Writes the whole file, or answers the system's number for why not.
-fn send_file(to: Stdout, positions: &[f32], triangles: &[u32], block: &mut [u8]) -> Result<(), i32>
+// Writes the whole file.
+fn send_file(
+    to: Stdout,
+    positions: &[f32],
+    triangles: &[u32],
+    block: &mut [u8],
+) -> Result<(), Error>
     requires { Drawn positions.now triangles.now × (length triangles.now ≤ 6291456) × (50000 ≤ length block.old) }
 {
     facets::put_head(block, (triangles.len() / 3) as u32);
@@ -91,16 +94,16 @@ fn tell_file(file: &[u8], job: &[u8], h: Head)
 }
 
 // Why a job that was read has no mesh.
-fn refuse_job(file: &[u8], job: &[u8], r: Refusal, more: bool) -> Made {
+fn refuse_job(file: &[u8], job: &[u8], r: Refusal, more: bool) -> Result<(), Unmade> {
     if is_short(r, more) {
-        return Made::Short;
+        return Err(Unmade::Short);
     }
     let a = job::check_job(job);
     if let Checked::Fine(h) = a {
         tell_file(file, job, h);
     }
     pdb_notes::tell_refused(file, r);
-    Made::Refused
+    Err(Unmade::Refused)
 }
 
 // What a person is told before anything is written.
@@ -128,16 +131,21 @@ fn tell(file: &[u8], job: &[u8], c: Counts, tubes: &[u32], boxes: &[f32], w: Wis
 }
 
 // The model of a mesh: its positions scaled in place, and the file written.
-fn send_model(positions: &mut [f32], triangles: &[u32], block: &mut [u8], w: Wish) -> Made
+fn send_model(
+    positions: &mut [f32],
+    triangles: &[u32],
+    block: &mut [u8],
+    w: Wish,
+) -> Result<(), Unmade>
     requires { Drawn positions.old triangles.now × (length triangles.now ≤ 6291456) × (50000 ≤ length block.old) }
 {
     scaling::scale_positions(positions, w.factor);
     if let Err(why) = send_file(w.to, positions, triangles, block) {
         files::fail(b"ribbon: the model cannot be written", why);
-        return Made::Failed;
+        return Err(Unmade::Failed);
     }
     report::tell_written(84 + 50 * (triangles.len() / 3));
-    Made::Written
+    Ok(())
 }
 
 // The model of a mesh that was built, and what is told of it.
@@ -151,7 +159,7 @@ fn finish(
     c: Counts,
     block: &mut [u8],
     w: Wish,
-) -> Made
+) -> Result<(), Unmade>
     requires { Ready positions.old triangles.now tubes.now boxes.now c × (50000 ≤ length block.old) }
 {
     let k = c.tubes;
@@ -159,7 +167,7 @@ fn finish(
     let t = 3 * c.triangles;
     tell(file, job, c, &tubes[..5 * k], &boxes[..6 * k], w);
     if k == 0 {
-        return Made::Refused;
+        return Err(Unmade::Refused);
     }
     send_model(&mut positions[..v], &triangles[..t], block, w)
 }
@@ -178,7 +186,7 @@ fn build_model(
     floats: &mut [f32],
     block: &mut [u8; 50000],
     w: Wish,
-) -> Made {
+) -> Result<(), Unmade> {
     let a = ribbon::build(
         job, positions, normals, tags, triangles, tubes, boxes, words, floats,
     );
@@ -202,7 +210,7 @@ pub fn make(
     floats: &mut [f32],
     block: &mut [u8; 50000],
     w: Wish,
-) -> Made {
+) -> Result<(), Unmade> {
     let a = pdb_reader::read_pdb(file, job);
     match a {
         Read::NoJob(r) => refuse(file, r, w.more),
