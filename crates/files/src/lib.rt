@@ -2,7 +2,7 @@
 // well. What a cut input gives is no whole file, and a part of a protein must never look like the whole of it.
 #![tactic(auto)]
 
-ghost use Rattle.std.specs.Prelude.{◌≤◌, length, IfOk};
+ghost use Rattle.std.specs.Prelude.{◌≡◌, ◌≤◌, length, Ok, IfOk, IfSome};
 
 use std::env::{Env, FillError};
 use std::fmt::InlineText;
@@ -27,37 +27,42 @@ pub enum Source {
     Named(File),
 }
 
-// How a buffer was filled: whole; the input had ended before it; it ended within it; or a read failed, with the system's number for why.
+// Why a buffer was not filled: the input had ended before it; it ended within it; or a read failed.
 #[derive(Clone, Copy)]
-pub enum Filled {
-    Whole,
+pub enum Unfilled {
     Nothing,
     Cut,
-    Failed(i32),
+    Failed(Error),
 }
 
-// The system's number for why something failed, 0 where it has none.
-fn number_of(e: Error) -> i32 {
-    e.raw_os_error().unwrap_or(0)
+impl From<Error> for Unfilled {
+    fn from(why: Error) -> Unfilled {
+        Unfilled::Failed(why)
+    }
+}
+
+// Why a program has not done what it was asked; which was said. Its status is 1, or 2 where it tells a read or a write that failed apart, as `ribbon` does.
+#[derive(Clone, Copy)]
+pub enum Undone {
+    Told,
+    Failed,
 }
 
 // One read, of at most as many bytes as buf has. The input has ended where it gives none.
-fn read_some(from: &Source, buf: &mut [u8]) -> Result<usize, i32>
+fn read_some(from: &Source, buf: &mut [u8]) -> Result<usize, Error>
     ensures { IfOk result (λ n. n ≤ length buf.new) }
 {
-    let got = match from {
+    match from {
         Source::Standard(rt) => rt.stdin().read(buf),
         Source::Named(file) => {
             let mut there = file;
             there.read(buf)
         }
-    };
-    got.map_err(number_of)
+    }
 }
 
-// Reads until the input ends or buf is full, and answers how many bytes it put there; where a read failed the system's number for why, since what came before it
-// is no whole file.
-pub fn read_all(from: &Source, buf: &mut [u8]) -> Result<usize, i32>
+// Reads until the input ends or buf is full, and answers how many bytes it put there; where a read failed why, since what came before it is no whole file.
+pub fn read_all(from: &Source, buf: &mut [u8]) -> Result<usize, Error>
     ensures { IfOk result (λ n. n ≤ length buf.new) }
 {
     let mut done = 0;
@@ -72,62 +77,54 @@ pub fn read_all(from: &Source, buf: &mut [u8]) -> Result<usize, i32>
 }
 
 // Reads exactly as many bytes as buf has, or tells why not.
-pub fn fill(from: &Source, buf: &mut [u8]) -> Filled {
-    let n = match read_all(from, buf) {
-        Ok(n) => n,
-        Err(why) => return Filled::Failed(why),
-    };
+pub fn fill(from: &Source, buf: &mut [u8]) -> Result<(), Unfilled> {
+    let n = read_all(from, buf)?;
     if n == buf.len() {
-        return Filled::Whole;
+        return Ok(());
     }
-    if n == 0 {
-        return Filled::Nothing;
-    }
-    Filled::Cut
+    Err(if n == 0 {
+        Unfilled::Nothing
+    } else {
+        Unfilled::Cut
+    })
 }
 
-// Writes all of the bytes to standard output, or answers the system's number for why not.
-pub fn write(to: Stdout, bytes: &[u8]) -> Result<(), i32> {
-    to.write_all(bytes).map_err(number_of)
+// Writes all of the bytes to standard output.
+pub fn write(to: Stdout, bytes: &[u8]) -> Result<(), Error> {
+    to.write_all(bytes)
 }
 
-// Puts argument i at the front of buf and answers its length; 0 where there is none, or it is longer than buf.
-pub fn argument(rt: &HostRuntime, i: usize, buf: &mut [u8]) -> usize
-    ensures { result ≤ length buf.new }
+// Puts argument i at the front of buf and answers its length; none where there is no such argument, or it is longer than buf.
+pub fn argument(rt: &HostRuntime, i: usize, buf: &mut [u8]) -> Option<usize>
+    ensures { IfSome result (λ n. n ≤ length buf.new) }
 {
-    rt.arg(i, buf).unwrap_or(0)
+    rt.arg(i, buf).ok()
 }
 
-// The file of a name, or none, which was then said. A name that is no text names no file here.
-pub fn open(rt: &HostRuntime, name: &[u8]) -> Option<Source> {
+// The file of a name, or that there is none, which was then said. A name that is no text names no file here.
+pub fn open(rt: &HostRuntime, name: &[u8]) -> Result<Source, Undone> {
     let opened = match str::from_utf8(name) {
-        Ok(path) => File::open(rt, path).map_err(number_of),
-        Err(_) => Err(EILSEQ),
+        Ok(path) => File::open(rt, path),
+        Err(_) => Err(Error::from_raw_os_error(EILSEQ)),
     };
-    match opened {
-        Ok(file) => Some(Source::Named(file)),
-        Err(why) => {
-            fail(name, why);
-            None
-        }
-    }
+    Ok(Source::Named(told(opened, name)?))
 }
 
 // The file that the first argument names, standard input where there is none, or nothing, which was then said.
-pub fn open_first(rt: &HostRuntime) -> Option<Source> {
+pub fn open_first(rt: &HostRuntime) -> Result<Source, Undone> {
     open_argument(rt, 1)
 }
 
 // The same of argument i.
-pub fn open_argument(rt: &HostRuntime, i: usize) -> Option<Source> {
+pub fn open_argument(rt: &HostRuntime, i: usize) -> Result<Source, Undone> {
     let mut path = io::buffer();
     match rt.arg(i, &mut path) {
         Ok(n) => open(rt, &path[..n]),
-        Err(FillError::NotPresent) => Some(Source::Standard(*rt)),
-        Err(FillError::TooLong) => {
-            fail(b"the file's name", ENAMETOOLONG);
-            None
-        }
+        Err(FillError::NotPresent) => Ok(Source::Standard(*rt)),
+        Err(FillError::TooLong) => told(
+            Err(Error::from_raw_os_error(ENAMETOOLONG)),
+            b"the file's name",
+        ),
     }
 }
 
@@ -199,26 +196,36 @@ fn words_in(text: &str) -> &str {
     }
 }
 
-// Says what failed, and the system's words for why.
-pub fn fail(what: &[u8], why: i32) {
-    let text = InlineText::<128>::of(Error::from_raw_os_error(why));
+// Says what failed, and the system's words for why; those of number 0 where the system has no number for it.
+pub fn fail(what: &[u8], why: Error) {
+    let number = why.raw_os_error().unwrap_or(0);
+    let text = InlineText::<128>::of(Error::from_raw_os_error(number));
     say(what);
     say(b": ");
     say(words_in(text.as_str()).as_bytes());
     say(b"\n");
 }
 
-// A program has no exit status of its own: its last act is one byte to descriptor 3, by which whoever started it knows that it came to its end and how it went.
-// Where nobody listens there, the write fails and nothing is lost.
-pub fn end(good: bool) {
-    if good {
-        end_with(b"0");
-        return;
+// What was done; or what failed is said, and why.
+pub fn told<T: Drop>(done: Result<T, Error>, what: &[u8]) -> Result<T, Undone>
+    ensures { IfOk result (λ x. done ≡ Ok x) }
+{
+    match done {
+        Ok(x) => Ok(x),
+        Err(why) => {
+            fail(what, why);
+            Err(Undone::Told)
+        }
     }
-    end_with(b"1");
 }
 
-// The same with a status of the program's own.
-pub fn end_with(status: &[u8]) {
+// A program has no exit status of its own: its last act is one byte to descriptor 3, by which whoever started it knows that it came to its end and how it went.
+// Where nobody listens there, the write fails and nothing is lost.
+pub fn end(done: Result<(), Undone>) {
+    let status = match done {
+        Ok(()) => b"0",
+        Err(Undone::Told) => b"1",
+        Err(Undone::Failed) => b"2",
+    };
     io::write_all(3, status);
 }

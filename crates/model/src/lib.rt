@@ -12,13 +12,13 @@ use buffers::Counts;
 use facets::Drawing;
 use job::Refusal;
 use protein::Head;
-use std::io::Stdout;
+use std::io::{Error, Stdout};
 use words::Else;
 
-// How it went. Short: the lent room is too short, which was not said, since the caller has more.
-#[derive(Drop)]
-pub enum Made {
-    Written,
+// Why no model was made. Short: the lent room is too short, which was not said, since the caller has more. The others were said: the file is refused, or the model
+// could not be written.
+#[derive(Clone, Copy)]
+pub enum Unmade {
     Refused,
     Failed,
     Short,
@@ -45,30 +45,28 @@ fn is_short(r: Refusal, more: bool) -> bool {
 }
 
 // Why a file has no job.
-fn refuse(file: &[u8], r: Refusal, more: bool) -> Made {
+fn refuse(file: &[u8], r: Refusal, more: bool) -> Result<(), Unmade> {
     if is_short(r, more) {
-        return Made::Short;
+        return Err(Unmade::Short);
     }
     pdb_notes::tell_refused(file, r);
-    Made::Refused
+    Err(Unmade::Refused)
 }
 
 // The facets of a mesh, block after block.
-fn send_facets(to: Stdout, d: &Drawing, block: &mut [u8]) -> Result<(), i32>
+fn send_facets(to: Stdout, d: &Drawing, block: &mut [u8]) -> Result<(), Error>
     requires { 50000 ≤ length block.old }
 {
     let t = d.triangles.len() / 3;
-    let mut i = 0;
-    while 1000 * i < t {
+    for i in 0..t.div_ceil(1000) {
         let n = blocks::put_block(block, d, i);
         files::write(to, &block[..n])?;
-        i += 1;
     }
     Ok(())
 }
 
-// Writes the whole file, or answers the system's number for why not.
-fn send_file(to: Stdout, d: &Drawing, block: &mut [u8]) -> Result<(), i32>
+// Writes the whole file.
+fn send_file(to: Stdout, d: &Drawing, block: &mut [u8]) -> Result<(), Error>
     requires { (length d.now.triangles.now ≤ 6291456) × (50000 ≤ length block.old) }
 {
     facets::put_head(block, (d.triangles.len() / 3) as u32);
@@ -85,16 +83,16 @@ fn tell_file(file: &[u8], job: &[u8], h: Head)
 }
 
 // Why a job that was read has no mesh.
-fn refuse_job(file: &[u8], job: &[u8], r: Refusal, more: bool) -> Made {
+fn refuse_job(file: &[u8], job: &[u8], r: Refusal, more: bool) -> Result<(), Unmade> {
     if is_short(r, more) {
-        return Made::Short;
+        return Err(Unmade::Short);
     }
     let a = job::check_job(job);
     if let Ok(h) = a {
         tell_file(file, job, h);
     }
     pdb_notes::tell_refused(file, r);
-    Made::Refused
+    Err(Unmade::Refused)
 }
 
 // What a person is told before anything is written.
@@ -122,7 +120,12 @@ fn tell(file: &[u8], job: &[u8], c: Counts, tubes: &[u32], boxes: &[f32], w: Wis
 }
 
 // The model of a mesh: its positions scaled in place, and the file written.
-fn send_model(positions: &mut [f32], triangles: &[u32], block: &mut [u8], w: Wish) -> Made
+fn send_model(
+    positions: &mut [f32],
+    triangles: &[u32],
+    block: &mut [u8],
+    w: Wish,
+) -> Result<(), Unmade>
     requires { Drawn positions.old triangles.now × (length triangles.now ≤ 6291456) × (50000 ≤ length block.old) }
 {
     scaling::scale_positions(positions, w.factor);
@@ -132,10 +135,10 @@ fn send_model(positions: &mut [f32], triangles: &[u32], block: &mut [u8], w: Wis
     };
     if let Err(why) = send_file(w.to, &d, block) {
         files::fail(b"ribbon: the model cannot be written", why);
-        return Made::Failed;
+        return Err(Unmade::Failed);
     }
     report::tell_written(84 + 50 * (triangles.len() / 3));
-    Made::Written
+    Ok(())
 }
 
 // The model of a mesh that was built, and what is told of it.
@@ -149,7 +152,7 @@ fn finish(
     c: Counts,
     block: &mut [u8],
     w: Wish,
-) -> Made
+) -> Result<(), Unmade>
     requires { Ready positions.old triangles.now tubes.now boxes.now c × (50000 ≤ length block.old) }
 {
     let k = c.tubes;
@@ -157,7 +160,7 @@ fn finish(
     let t = 3 * c.triangles;
     tell(file, job, c, &tubes[..5 * k], &boxes[..6 * k], w);
     if k == 0 {
-        return Made::Refused;
+        return Err(Unmade::Refused);
     }
     send_model(&mut positions[..v], &triangles[..t], block, w)
 }
@@ -176,7 +179,7 @@ fn build_model(
     floats: &mut [f32],
     block: &mut [u8; 50000],
     w: Wish,
-) -> Made {
+) -> Result<(), Unmade> {
     let a = ribbon::build(
         job, positions, normals, tags, triangles, tubes, boxes, words, floats,
     );
@@ -200,7 +203,7 @@ pub fn make(
     floats: &mut [f32],
     block: &mut [u8; 50000],
     w: Wish,
-) -> Made {
+) -> Result<(), Unmade> {
     let a = pdb_reader::read_pdb(file, job);
     match a {
         Err(r) => refuse(file, r, w.more),

@@ -1,17 +1,19 @@
--- Lists of words, floats and bytes, as bytes.
-use Rattle.std.specs.Prelude.{ℕ, List, [], ◌∷◌, get_or, Float}
-use Rattle.std.specs.Float.{nan, binary32}
+-- Lists of values, as bytes.
+use Rattle.std.specs.Prelude.{◌≡◌, refl, ℕ, List, [], ◌∷◌, ◌++◌, length, Float}
+use Rattle.std.specs.Float.{binary32}
 use Rattle.std.specs.Float.Ieee.{to_bits}
-use Rattle.lists.specs.Put.{upto}
-use Rattle.numbers.specs.Bytes.{u32}
+use Rattle.numbers.specs.Bytes.{u16, u32}
 
--- the first n words of a list, and the first n floats by their bits, of which one pattern stands for every NaN
-unfoldable pub word_bytes : List ℕ → ℕ → List ℕ
-word_bytes l n = upto (λ (k : ℕ). u32 (get_or l k 0)) n
+-- the bytes of all values of a list, one value after the other; f gives those of one
+unfoldable pub all_bytes : {A : Type 0} → (A → List ℕ) → List A → List ℕ
+all_bytes f [] = []
+all_bytes f (x ∷ l) = f x ++ all_bytes f l
 
-unfoldable pub float_bytes : List Float → ℕ → List ℕ
-float_bytes l n = upto (λ (k : ℕ). u32 (to_bits binary32 (get_or l k nan))) n
+-- a word has four
+pub word_long : (n : ℕ) → length (u32 n) ≡ 4
+unfolding u16 u32
+word_long n = refl
 
--- the first n bytes of a list
-unfoldable pub plain_bytes : List ℕ → ℕ → List ℕ
-plain_bytes l n = upto (λ (k : ℕ). get_or l k 0 ∷ []) n
+-- a float's bytes are those of its bits, of which one pattern stands for every NaN
+abbrev pub float_bytes : Float → List ℕ
+float_bytes x = u32 (to_bits binary32 x)

@@ -2,37 +2,23 @@
 // be written, it says so on standard error.
 #![tactic(auto)]
 
-use files::{Source, say};
+use files::{Source, Undone, say};
 use serve::End;
 use stream::sink::{Mode, Sink};
 
 // Whether every request was answered.
-fn report(end: End) -> bool {
+fn report(end: End) -> Result<(), Undone> {
     match end {
-        End::Whole => true,
-        End::Cut => {
-            say(b"ribbon-batch: the input ends within a request, which is not answered\n");
-            false
-        }
-        End::Unread(why) => {
-            files::fail(b"ribbon-batch: the input cannot be read", why);
-            false
-        }
-        End::Unsent(why) => {
-            files::fail(b"ribbon-batch: an answer cannot be written", why);
-            false
-        }
+        End::Whole => return Ok(()),
+        End::Cut => say(b"ribbon-batch: the input ends within a request, which is not answered\n"),
+        End::Unread(why) => files::fail(b"ribbon-batch: the input cannot be read", why),
+        End::Unsent(why) => files::fail(b"ribbon-batch: an answer cannot be written", why),
     }
+    Err(Undone::Told)
 }
 
 fn main(rt: HostRuntime) {
-    let s = Sink {
-        mode: Mode::Write(rt.stdout()),
-        at: 0,
-        good: true,
-        why: 0,
-    };
-    let run = serve::serve_all(&Source::Standard(rt), s);
-    let end = run.end;
-    files::end(report(end));
+    let mut s = Sink::new(Mode::Write(rt.stdout()));
+    let run = serve::serve_all(&Source::Standard(rt), &mut s);
+    files::end(report(run.end));
 }

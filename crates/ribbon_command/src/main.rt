@@ -2,102 +2,43 @@
 // are ROOM, which is large where the system gives it a long stack and small where not, the scale in millimetres for an angstrom, and the file.
 #![tactic(auto)]
 
-ghost use Rattle.std.specs.Prelude.{◌+◌, ◌≤◌, ◌≡◌, length, IfSome};
+ghost use Rattle.std.specs.Prelude.{◌+◌, ◌≤◌, ◌≡◌, length, IfOk};
 ghost use Rattle.buffers.specs.Outs.{outs};
 ghost use Rattle.room.specs.Room.{buffers};
 ghost use Rattle.model_theorems.specs.Large.{LargeRoom, large_job};
 
-use files::{Source, say};
-use model::{Made, Wish};
+use files::{Source, Undone, say};
+use model::{Unmade, Wish};
 use std::io::Stdout;
 use words::Else;
 
-// Room in two sizes. A file and a mesh that fit the small one stay below the 8 MiB that a system gives a program's stack; the large one has room for every mesh
-// that the limits allow. Each array comes from a function of its own, since a proof that sees so long an array's zeros counts them one by one.
-fn short_file() -> [u8; 1500001] {
-    [0u8; 1500001]
+// Room of so many values. It comes from a function of its own, since a proof that sees so long an array's zeros counts them one by one.
+fn room<T: Copy, const N: usize>(zero: T) -> [T; N] {
+    [zero; N]
 }
 
-fn long_file() -> [u8; 16777217] {
-    [0u8; 16777217]
-}
-
-fn longest_file() -> [u8; 134217729] {
-    [0u8; 134217729]
-}
-
-fn small_job() -> [u8; 1000000] {
-    [0u8; 1000000]
-}
-
-// 13 + C + 9S + 33A for the greatest C, S and A.
-fn large_job() -> [u8; 2752738] {
-    [0u8; 2752738]
-}
-
-fn small_vectors() -> [f32; 196608] {
-    [0.0f32; 196608]
-}
-
-fn large_vectors() -> [f32; 3145728] {
-    [0.0f32; 3145728]
-}
-
-fn small_tags() -> [u32; 65536] {
-    [0u32; 65536]
-}
-
-fn large_tags() -> [u32; 1048576] {
-    [0u32; 1048576]
-}
-
-// A mesh has at most two triangles for each vertex.
-fn small_triangles() -> [u32; 393216] {
-    [0u32; 393216]
-}
-
-fn large_triangles() -> [u32; 6291456] {
-    [0u32; 6291456]
-}
-
-// The shortest tube has 74 vertices: 885 tubes in 65,536 of them, and 14,169 in 1,048,576.
-fn large_tubes() -> [u32; 70845] {
-    [0u32; 70845]
-}
-
-fn large_boxes() -> [f32; 85014] {
-    [0.0f32; 85014]
-}
-
-fn large_words() -> [u32; 131072] {
-    [0u32; 131072]
-}
-
-fn large_floats() -> [f32; 524288] {
-    [0.0f32; 524288]
-}
-
-// The status by which the program ends: 0 written, 1 refused, 2 a failed read or write.
-fn status_of(m: Made) -> u8 {
-    match m {
-        Made::Written => 0,
-        Made::Refused => 1,
-        Made::Short => 1,
-        Made::Failed => 2,
+// Why a program that makes a model has not.
+fn undone(why: Unmade) -> Undone {
+    match why {
+        Unmade::Failed => Undone::Failed,
+        _ => Undone::Told,
     }
 }
 
-fn in_small_room(file: &[u8], w: Wish) -> Made {
-    let mut job = small_job();
-    let mut positions = small_vectors();
-    let mut normals = small_vectors();
-    let mut tags = small_tags();
-    let mut triangles = small_triangles();
-    let mut tubes = [0u32; 4425];
-    let mut boxes = [0.0f32; 5310];
-    let mut words = [0u32; 8192];
-    let mut floats = [0.0f32; 32768];
-    let mut block = [0u8; 50000];
+// Room in two sizes. A file and a mesh that fit the small one stay below the 8 MiB that a system gives a program's stack; the large one has room for every mesh
+// that the limits allow.
+fn in_small_room(file: &[u8], w: Wish) -> Result<(), Unmade> {
+    let mut job: [u8; 1000000] = room(0);
+    let mut positions: [f32; 196608] = room(0.0);
+    let mut normals: [f32; 196608] = room(0.0);
+    let mut tags: [u32; 65536] = room(0);
+    // a mesh has at most two triangles for each vertex, and the shortest tube has 74 vertices: 885 tubes in 65,536 of them
+    let mut triangles: [u32; 393216] = room(0);
+    let mut tubes: [u32; 4425] = room(0);
+    let mut boxes: [f32; 5310] = room(0.0);
+    let mut words: [u32; 8192] = room(0);
+    let mut floats: [f32; 32768] = room(0.0);
+    let mut block: [u8; 50000] = room(0);
     model::make(
         file,
         &mut job,
@@ -131,21 +72,23 @@ fn holds_every_job(
 {}
 
 #[inline(never)]
-fn in_large_room(file: &[u8], w: Wish) -> u8 {
-    let mut job = large_job();
-    let mut positions = large_vectors();
-    let mut normals = large_vectors();
-    let mut tags = large_tags();
-    let mut triangles = large_triangles();
-    let mut tubes = large_tubes();
-    let mut boxes = large_boxes();
-    let mut words = large_words();
-    let mut floats = large_floats();
-    let mut block = [0u8; 50000];
+fn in_large_room(file: &[u8], w: Wish) -> Result<(), Undone> {
+    // 13 + C + 9S + 33A for the greatest C, S and A
+    let mut job: [u8; 2752738] = room(0);
+    let mut positions: [f32; 3145728] = room(0.0);
+    let mut normals: [f32; 3145728] = room(0.0);
+    let mut tags: [u32; 1048576] = room(0);
+    let mut triangles: [u32; 6291456] = room(0);
+    // 14,169 tubes in 1,048,576 vertices
+    let mut tubes: [u32; 70845] = room(0);
+    let mut boxes: [f32; 85014] = room(0.0);
+    let mut words: [u32; 131072] = room(0);
+    let mut floats: [f32; 524288] = room(0.0);
+    let mut block: [u8; 50000] = room(0);
     holds_every_job(
         &job, &positions, &normals, &tags, &triangles, &tubes, &boxes, &words, &floats,
     );
-    status_of(model::make(
+    let made = model::make(
         file,
         &mut job,
         &mut positions,
@@ -158,97 +101,75 @@ fn in_large_room(file: &[u8], w: Wish) -> u8 {
         &mut floats,
         &mut block,
         w,
-    ))
+    );
+    made.map_err(undone)
 }
 
-// Reads a file on, behind the n bytes of it that stand in the room, and answers how many there are then; none where a read failed, or the file changed meanwhile,
-// which was then said. A full room says that the file may be longer.
-fn read_on(from: &Source, room: &mut [u8], n: usize, what: &[u8]) -> Option<usize>
+// Reads a file on, behind the n bytes of it that stand in the room, and answers how many there are then; or says that a read failed, or that the file changed
+// meanwhile. A full room says that the file may be longer.
+fn read_on(from: &Source, room: &mut [u8], n: usize) -> Result<usize, Undone>
     requires { n ≤ length room.old }
-    ensures { IfSome result (λ all. all ≤ length room.new) }
+    ensures { IfOk result (λ all. all ≤ length room.new) }
 {
+    let what: &[u8] = if from.is_standard() {
+        b"ribbon: standard input cannot be read"
+    } else {
+        b"ribbon: the file cannot be read"
+    };
     let all = match files::read_all(from, &mut room[n..]) {
         Ok(got) => n + got,
         Err(why) => {
             files::fail(what, why);
-            return None;
+            return Err(Undone::Failed);
         }
     };
-    if all < room.len() {
-        if !files::is_settled(from, all) {
-            words::explain_else(Else::Changed);
-            return None;
-        }
+    if all < room.len() && !files::is_settled(from, all) {
+        words::explain_else(Else::Changed);
+        return Err(Undone::Failed);
     }
-    Some(all)
-}
-
-// The bytes that were read before, at the front of longer room.
-fn copy(head: &[u8], room: &mut [u8])
-    requires { length head.now ≤ length room.old }
-{
-    let mut i = 0;
-    while i < head.len() {
-        room[i] = head[i];
-        i += 1;
-    }
+    Ok(all)
 }
 
 #[inline(never)]
-fn in_longest_file(from: &Source, head: &[u8], w: Wish, what: &[u8]) -> u8
+fn in_longest_file(from: &Source, head: &[u8], w: Wish) -> Result<(), Undone>
     requires { length head.now ≤ 16777217 }
 {
-    let mut file = longest_file();
+    let mut file: [u8; 134217729] = room(0);
     say(
         b"note: the file is longer than 16777216 bytes; all of it is read before anything is built\n",
     );
-    copy(head, &mut file);
-    let Some(n) = read_on(from, &mut file, head.len(), what) else {
-        return 2;
-    };
+    file[..head.len()].copy_from_slice(head);
+    let n = read_on(from, &mut file, head.len())?;
     if n < 134217729 {
         return in_large_room(&file[..n], w);
     }
     words::explain_else(Else::LongModel);
-    1
+    Err(Undone::Told)
 }
 
 #[inline(never)]
-fn in_long_file(from: &Source, head: &[u8], w: Wish, what: &[u8]) -> u8
+fn in_long_file(from: &Source, head: &[u8], w: Wish) -> Result<(), Undone>
     requires { length head.now ≤ 1500001 }
 {
-    let mut file = long_file();
-    copy(head, &mut file);
-    let Some(n) = read_on(from, &mut file, head.len(), what) else {
-        return 2;
-    };
+    let mut file: [u8; 16777217] = room(0);
+    file[..head.len()].copy_from_slice(head);
+    let n = read_on(from, &mut file, head.len())?;
     if n < 16777217 {
         return in_large_room(&file[..n], w);
     }
-    if from.is_standard() {
-        return in_longest_file(
-            from,
-            &file[..n],
-            w,
-            b"ribbon: standard input cannot be read",
-        );
-    }
-    in_longest_file(from, &file[..n], w, b"ribbon: the file cannot be read")
+    in_longest_file(from, &file[..n], w)
 }
 
 // A file that is longer than the small room. What has the longer arrays stays apart from its caller, which would else need the long stack even where the small room
 // serves: every page of a stack is touched when its function begins.
-fn in_more_room(from: &Source, head: &[u8], w: Wish, large: bool) -> u8
+fn in_more_room(from: &Source, head: &[u8], w: Wish, large: bool) -> Result<(), Undone>
     requires { length head.now ≤ 1500001 }
 {
     if !large {
         words::explain_else(Else::NoStack);
-        return 1;
+        return Err(Undone::Told);
     }
-    if from.is_standard() {
-        return in_long_file(from, head, w, b"ribbon: standard input cannot be read");
-    }
-    in_long_file(from, head, w, b"ribbon: the file cannot be read")
+    in_long_file(from, head, w)
 }
 
 fn wish(to: Stdout, m: u32, factor: f32, more: bool) -> Wish {
@@ -260,78 +181,52 @@ fn wish(to: Stdout, m: u32, factor: f32, more: bool) -> Wish {
     }
 }
 
-// The front of the file.
-fn read_front(from: &Source, room: &mut [u8]) -> Option<usize>
-    ensures { IfSome result (λ n. n ≤ length room.new) }
-{
-    if from.is_standard() {
-        return read_on(from, room, 0, b"ribbon: standard input cannot be read");
-    }
-    read_on(from, room, 0, b"ribbon: the file cannot be read")
-}
-
-// In the small room, and, where that is too short and there is a large one, in that. The status by which the program ends.
-fn start(from: &Source, to: Stdout, m: u32, factor: f32, large: bool) -> u8 {
-    let mut file = short_file();
-    let Some(n) = read_front(from, &mut file) else {
-        return 2;
-    };
+// In the small room, and, where that is too short and there is a large one, in that.
+fn start(from: &Source, to: Stdout, m: u32, factor: f32, large: bool) -> Result<(), Undone> {
+    let mut file: [u8; 1500001] = room(0);
+    let n = read_on(from, &mut file, 0)?;
     if n == 1500001 {
         return in_more_room(from, &file[..n], wish(to, m, factor, false), large);
     }
-    let made = in_small_room(&file[..n], wish(to, m, factor, large));
-    let Made::Short = made else {
-        return status_of(made);
-    };
-    in_large_room(&file[..n], wish(to, m, factor, false))
+    match in_small_room(&file[..n], wish(to, m, factor, large)) {
+        Err(Unmade::Short) => in_large_room(&file[..n], wish(to, m, factor, false)),
+        made => made.map_err(undone),
+    }
 }
 
 // Whether an argument is the word.
 fn is_word(rt: &HostRuntime, i: usize, word: &[u8]) -> bool {
     let mut text = io::buffer();
-    let n = files::argument(rt, i, &mut text);
-    if n != word.len() {
-        return false;
+    match files::argument(rt, i, &mut text) {
+        Some(n) => text[..n] == word[..],
+        None => false,
     }
-    pdb_lines::is_at(&text[..n], 0, word)
 }
 
-fn run(rt: &HostRuntime, m: u32, large: bool) -> u8
+fn run(rt: &HostRuntime, m: u32, large: bool) -> Result<(), Undone>
     requires { m ≤ 1000000 }
 {
-    let Some(from) = files::open_argument(rt, 3) else {
-        return 2;
+    let Ok(from) = files::open_argument(rt, 3) else {
+        return Err(Undone::Failed);
     };
     start(&from, rt.stdout(), m, scaling::factor_of(m), large)
 }
 
 // The words are the room, the scale and the file.
-fn run_words(rt: &HostRuntime) -> u8 {
+fn run_words(rt: &HostRuntime) -> Result<(), Undone> {
     let mut text = io::buffer();
-    let n = files::argument(rt, 2, &mut text);
+    let n = files::argument(rt, 2, &mut text).unwrap_or(0);
     match scaling::factor_in(&text[..n]) {
         Some(m) => run(rt, m, is_word(rt, 1, b"large")),
         None => {
             say(
                 b"ribbon: this is no scale: one to four digits and, if wanted, a point with one to three digits behind it, from 0.001 to 1000\n",
             );
-            2
+            Err(Undone::Failed)
         }
     }
 }
 
-fn end(status: u8) {
-    if status == 0 {
-        files::end_with(b"0");
-        return;
-    }
-    if status == 1 {
-        files::end_with(b"1");
-        return;
-    }
-    files::end_with(b"2");
-}
-
 fn main(rt: HostRuntime) {
-    end(run_words(&rt));
+    files::end(run_words(&rt));
 }

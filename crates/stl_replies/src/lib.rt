@@ -2,138 +2,74 @@
 // protocol, and a mesh what the request's bytes say.
 #![tactic(auto)]
 
-ghost use Rattle.std.specs.Prelude.{length};
-ghost use Rattle.stl_replies.specs.Mesh.{mesh_of, MeshBytes};
-ghost use Rattle.stream.specs.Requests.{Within, stl_lent};
-ghost use Rattle.stream.specs.Sinks.{SinkReady};
+ghost use Rattle.std.specs.Prelude.{◌≡◌, ◌≤◌, length};
+ghost use Rattle.stl_replies.specs.Mesh.{MeshBytes};
+ghost use Rattle.stream.specs.Buffers.{lengths};
+ghost use Rattle.stream.specs.Requests.{Within, stl_lent, stl_own};
 
 use numbers::u32_at;
-use numbers::words::{get_floats, get_words};
-use stream::patterns::{fill_bytes, fill_floats};
+use numbers::words::get_all;
+use stream::buffers::Buffers;
+use stream::patterns::fill;
 use stream::requests::Lengths;
-use stream::sink::{Sink, send_bytes, send_floats, send_four};
+use stream::sink::Sink;
 
 // The mesh buffers of a request; K, V and T stand in its first twelve bytes.
-fn load_mesh(
-    b: &[u8],
-    positions: &mut [f32],
-    normals: &mut [f32],
-    tags: &mut [u32],
-    triangles: &mut [u32],
-    tubes: &mut [u32],
-    boxes: &mut [f32],
-)
-    requires { MeshBytes (mesh_of (length positions.old) (length normals.old) (length tags.old)
-        (length triangles.old) (length tubes.old) (length boxes.old) 0) (length b.now) }
+fn load_mesh(b: &[u8], own: &mut Buffers, lent: Lengths, n: usize)
+    requires { Within (stl_lent lent) (stl_own (lengths own.old) n) × MeshBytes lent (length b.now) }
+    ensures { lengths own.new ≡ lengths own.old }
 {
-    let a1 = 12 + positions.len() * 4;
-    let a2 = a1 + normals.len() * 4;
-    let a3 = a2 + tags.len() * 4;
-    let a4 = a3 + triangles.len() * 4;
-    let a5 = a4 + tubes.len() * 4;
-    get_floats(b, 12, positions);
-    get_floats(b, a1, normals);
-    get_words(b, a2, tags);
-    get_words(b, a3, triangles);
-    get_words(b, a4, tubes);
-    get_floats(b, a5, boxes);
+    let a1 = 12 + lent.positions * 4;
+    let a2 = a1 + lent.normals * 4;
+    let a3 = a2 + lent.tags * 4;
+    let a4 = a3 + lent.triangles * 4;
+    let a5 = a4 + lent.tubes * 4;
+    get_all(b, 12, &mut own.positions[..lent.positions]);
+    get_all(b, a1, &mut own.normals[..lent.normals]);
+    get_all(b, a2, &mut own.tags[..lent.tags]);
+    get_all(b, a3, &mut own.triangles[..lent.triangles]);
+    get_all(b, a4, &mut own.tubes[..lent.tubes]);
+    get_all(b, a5, &mut own.boxes[..lent.boxes]);
 }
 
-// A request to write, with exactly the places that it is lent.
-fn write_mesh(
-    s: Sink,
-    b: &[u8],
-    positions: &mut [f32],
-    normals: &mut [f32],
-    tags: &mut [u32],
-    triangles: &mut [u32],
-    tubes: &mut [u32],
-    boxes: &mut [f32],
-    stl: &mut [u8],
-    out: &mut [u8],
-) -> Sink
-    requires { SinkReady s (length out.old) × MeshBytes (mesh_of (length positions.old) (length normals.old) (length tags.old)
-        (length triangles.old) (length tubes.old) (length boxes.old) 0) (length b.now) }
-    ensures { SinkReady result (length out.old) }
+// The file of a mesh, in exactly the places that are lent; K, V and T stand in the first twelve bytes of its request.
+fn write(b: &[u8], own: &Buffers, lent: Lengths, stl: &mut [u8], s: &mut Sink)
+    requires { Within (stl_lent lent) (stl_own (lengths own.now) (length stl.old)) × (12 ≤ length b.now) }
 {
-    let k = u32_at(b, 0);
-    let v = u32_at(b, 4);
-    let t = u32_at(b, 8);
     let mut answer = [0u32; 4];
-    load_mesh(b, positions, normals, tags, triangles, tubes, boxes);
-    fill_bytes(stl);
+    fill(stl);
     ribbon_c::ribbon_write_stl(
-        positions,
-        normals,
-        tags,
-        triangles,
-        tubes,
-        boxes,
-        k,
-        v,
-        t,
+        &own.positions[..lent.positions],
+        &own.normals[..lent.normals],
+        &own.tags[..lent.tags],
+        &own.triangles[..lent.triangles],
+        &own.tubes[..lent.tubes],
+        &own.boxes[..lent.boxes],
+        u32_at(b, 0),
+        u32_at(b, 4),
+        u32_at(b, 8),
         stl,
         &mut answer,
     );
-    let u = send_four(s, out, &answer);
-    send_bytes(u, out, stl)
+    s.send(&answer);
+    s.send(stl);
 }
 
-// A request to write, of the program's own arrays. It has the length of its lent bytes in the place of scratch words.
-pub fn answer_write(
-    s: Sink,
-    lent: Lengths,
-    b: &[u8],
-    positions: &mut [f32],
-    normals: &mut [f32],
-    tags: &mut [u32],
-    triangles: &mut [u32],
-    tubes: &mut [u32],
-    boxes: &mut [f32],
-    stl: &mut [u8],
-    out: &mut [u8],
-) -> Sink
-    requires { SinkReady s (length out.old) × Within (stl_lent lent) (mesh_of (length positions.old) (length normals.old) (length tags.old)
-        (length triangles.old) (length tubes.old) (length boxes.old) (length stl.old)) × MeshBytes lent (length b.now) }
-    ensures { SinkReady result (length out.old) }
+// A request to write. It has the length of its lent bytes in the place of scratch words.
+pub fn answer_write(lent: Lengths, b: &[u8], own: &mut Buffers, stl: &mut [u8], s: &mut Sink)
+    requires { Within (stl_lent lent) (stl_own (lengths own.old) (length stl.old)) × MeshBytes lent (length b.now) }
 {
-    let n0 = lent.positions;
-    let n1 = lent.normals;
-    let n2 = lent.tags;
-    let n3 = lent.triangles;
-    let n4 = lent.tubes;
-    let n5 = lent.boxes;
-    let n6 = lent.words;
-    write_mesh(
-        s,
-        b,
-        &mut positions[..n0],
-        &mut normals[..n1],
-        &mut tags[..n2],
-        &mut triangles[..n3],
-        &mut tubes[..n4],
-        &mut boxes[..n5],
-        &mut stl[..n6],
-        out,
-    )
+    load_mesh(b, own, lent, stl.len());
+    write(b, own, lent, &mut stl[..lent.words], s);
 }
 
 // A request to list the facets of a file. The lent lists are filled with the pattern first.
-pub fn answer_list(
-    s: Sink,
-    file: &[u8],
-    corners: &mut [f32],
-    normals: &mut [f32],
-    out: &mut [u8],
-) -> Sink
-    requires { SinkReady s (length out.old) }
-    ensures { SinkReady result (length out.old) }
-{
+pub fn answer_list(file: &[u8], corners: &mut [f32], normals: &mut [f32], s: &mut Sink) {
     let mut answer = [0u32; 4];
-    fill_floats(corners);
-    fill_floats(normals);
+    fill(corners);
+    fill(normals);
     ribbon_c::ribbon_read_stl(file, corners, normals, &mut answer);
-    let t = send_four(s, out, &answer);
-    let u = send_floats(t, out, corners);
-    send_floats(u, out, normals)
+    s.send(&answer);
+    s.send(corners);
+    s.send(normals);
 }

@@ -1,3 +1,3 @@
+pub mod Buffers
 pub mod Patterns
 pub mod Requests
-pub mod Sinks

@@ -35,10 +35,6 @@ pub record Within (lent own : Lengths) : Type 0 where
   pub words : lent.words ≤ own.words
   pub floats : lent.floats ≤ own.floats
 
--- the lengths of a program's own arrays, of which a request is lent parts
-abbrev pub own : ℕ → ℕ → ℕ → ℕ → ℕ → ℕ → ℕ → ℕ → Lengths
-own p n t c k b w f = record { positions = p; normals = n; tags = t; triangles = c; tubes = k; boxes = b; words = w; floats = f }
-
 -- the calls of one of two parties
 abbrev pub party : Request → Bool
 party r = eqb r.call 7 || eqb r.call 8
@@ -59,16 +55,11 @@ mesh_places l = l.positions + l.normals + l.tags + l.triangles + l.tubes + l.box
 
 -- what a request to write STL is lent: the mesh buffers, and its bytes in the place of scratch words; scratch floats are not looked at
 abbrev pub stl_lent : Lengths → Lengths
-stl_lent l = record {
-  positions = l.positions;
-  normals = l.normals;
-  tags = l.tags;
-  triangles = l.triangles;
-  tubes = l.tubes;
-  boxes = l.boxes;
-  words = l.words;
-  floats = 0;
-}
+stl_lent l = record l { floats = 0 }
+
+-- a program's own buffers for such a request, with so many bytes in the place of scratch words
+abbrev pub stl_own : Lengths → ℕ → Lengths
+stl_own l n = record l { words = n; floats = 0 }
 
 -- a request to write STL that is answered by the call: its bytes are K, V, T and the contents of the mesh buffers
 pub record ServesMesh (r : Request) (own : Lengths) (room : ℕ) : Type 0 where

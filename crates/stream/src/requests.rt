@@ -1,6 +1,6 @@
 // The head of a request.
 ghost use Rattle.std.specs.Prelude.{◌≡◌, true, ◌≤◌, ◌<◌, length};
-ghost use Rattle.stream.specs.Requests.{request_of, SmallLengths, Within, party, known, Serves, mesh_places, stl_lent, ServesMesh};
+ghost use Rattle.stream.specs.Requests.{request_of, SmallLengths, Within, party, known, Serves, mesh_places, stl_lent, stl_own, ServesMesh};
 
 // How many places are lent of each buffer.
 #[derive(Clone, Copy)]
@@ -138,15 +138,17 @@ fn mesh_places(r: Request) -> usize
 fn stl_lent(l: Lengths) -> Lengths
     ensures { result ≡ stl_lent l }
 {
+    Lengths { floats: 0, ..l }
+}
+
+// The lengths of a program's own buffers for such a request, with n bytes in the place of scratch words.
+pub fn stl_own(l: Lengths, n: usize) -> Lengths
+    ensures { result ≡ stl_own l n }
+{
     Lengths {
-        positions: l.positions,
-        normals: l.normals,
-        tags: l.tags,
-        triangles: l.triangles,
-        tubes: l.tubes,
-        boxes: l.boxes,
-        words: l.words,
+        words: n,
         floats: 0,
+        ..l
     }
 }
 

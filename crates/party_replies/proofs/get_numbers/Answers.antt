@@ -29,12 +29,6 @@ offset_bounds-n-to c = omega (arith, kept _ _ _ c.loop-i.invariant.1)
 pub bounds-n-to : goal.bounds-n-to
 bounds-n-to c = omega (arith, kept _ _ _ c.loop-i.invariant.1)
 
-pub overflow_add-i : goal.overflow_add-i
-overflow_add-i c = omega arith
-
-pub loop-i-smaller : goal.loop-i-smaller
-loop-i-smaller c = omega arith
-
 pub loop-i-preserved : goal.loop-i-preserved
 loop-i-preserved c =
     let args = c.args in

@@ -9,6 +9,3 @@ use Rattle.party_replies.proofs.get_numbers.Given as goal
 
 abbrev pub invariant-loop-i : goal.invariant-loop-i
 invariant-loop-i l = (l.i ≤ 12) × (l.n ≡ put l.initial.n l.to (upto (λ (k : ℕ). u32_at l.b (l.at + k * 4) ∷ []) l.i))
-
-abbrev pub decreases-loop-i : goal.decreases-loop-i
-decreases-loop-i l = 12 - l.i

@@ -7,6 +7,3 @@ use Rattle.ribbon_plan.proofs.print_tubes.Given as goal
 
 abbrev pub invariant-loop-k : goal.invariant-loop-k
 invariant-loop-k l = (l.k ≤ l.tubes) × (length l.words ≡ length l.initial.words) × (length l.floats ≡ length l.initial.floats)
-
-abbrev pub decreases-loop-k : goal.decreases-loop-k
-decreases-loop-k l = l.tubes - l.k
