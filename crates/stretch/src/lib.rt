@@ -87,6 +87,7 @@ fn first_from(b: &[u8], h: Head, from: usize, to: usize, v: usize) -> usize
     requires { Whole b.now h × Run (job_of b.now h) from to }
     ensures { Splits (job_of b.now h).serial from to v result }
 {
+    // by hand: std's `partition_point` halves a slice, and serials stand 33 bytes apart
     let mut lo = from;
     let mut hi = to;
     while lo < hi {

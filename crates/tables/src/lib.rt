@@ -187,6 +187,7 @@ pub fn fill_segment(
         from: residues.to,
         to: residues.from,
     };
+    // no range: from an atom in the range it goes on to the next one
     let mut a = stretch::first_inside(b, h, g, atoms.from, n);
     while a < n {
         seen = note_inside(b, h, g, full, a, residues, seen, t, alphas, oxygens);
