@@ -11,22 +11,32 @@ fn slot_of(key: u64) -> usize
     ((key / 256 + key / 2199023255552 * 613) % 16384) as usize
 }
 
-// Which of the first `n` keys this one is.
-pub fn find(keys: &[u64; 16384], links: &[usize; 32768], n: usize, key: u64) -> Option<usize>
-    requires { Index keys.now links.now n }
-    ensures { Finds keys.now n key result }
-{
-    // Links count from 1, and 0 ends a slot's: tables that are all 0 are an empty index.
-    let h = slot_of(key);
-    let mut p = links[h];
-    while 0 < p {
-        let i = p - 1;
-        if keys[i] == key {
-            return Some(i);
+// An index to look keys up in: its tables, and how many keys it holds.
+#[derive(Clone, Copy)]
+pub struct Lookup<'a> {
+    pub keys: &'a [u64; 16384],
+    pub links: &'a [usize; 32768],
+    pub n: usize,
+    ghost index: { Index keys.now links.now n },
+}
+
+impl<'a> Lookup<'a> {
+    // Which of the keys this one is.
+    pub fn find(&self, key: u64) -> Option<usize>
+        ensures { Finds self.now.keys.now self.now.n key result }
+    {
+        // Links count from 1, and 0 ends a slot's: tables that are all 0 are an empty index.
+        let h = slot_of(key);
+        let mut p = self.links[h];
+        while 0 < p {
+            let i = p - 1;
+            if self.keys[i] == key {
+                return Some(i);
+            }
+            p = self.links[16384 + i];
         }
-        p = links[16384 + i];
+        None
     }
-    None
 }
 
 // One key more, which gets the number `n`.
@@ -50,7 +60,12 @@ pub fn add(keys: &mut [u64; 16384], links: &mut [usize; 32768], n: usize, key: u
     if n == 16384 {
         return n;
     }
-    if find(keys, links, n, key).is_some() {
+    let index = Lookup {
+        keys: &*keys,
+        links: &*links,
+        n,
+    };
+    if index.find(key).is_some() {
         return n;
     }
     enter(keys, links, n, key);

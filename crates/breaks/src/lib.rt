@@ -169,9 +169,9 @@ fn visit(
     }
     let name = keys[r];
     let c = letter_of(name) as usize;
-    let last_one = last[c];
+    let found = last[c];
     last[c] = Some(r as u16);
-    let Some(before) = last_one else {
+    let Some(before) = found else {
         return n;
     };
     let before = usize::from(before);
@@ -184,14 +184,17 @@ fn visit(
     n + 1
 }
 
-// Those past the twelve that are named.
-fn say_more(name: &[u8], n: usize) {
-    if n <= 12 {
+// After a list of n, of which twelve are named: how many more there are, and what the list means.
+fn say_end(and: &[u8], n: usize, meaning: &[u8]) {
+    if n == 0 {
         return;
     }
-    say(name);
-    io::print_decimal(STDERR_FILENO, (n - 12) as u64);
-    say(b" more\n");
+    if 12 < n {
+        say(and);
+        io::print_decimal(STDERR_FILENO, (n - 12) as u64);
+        say(b" more\n");
+    }
+    say(meaning);
 }
 
 fn tell_breaks(keys: &[u64; 16384], marks: &[u8; 49152], residues: usize)
@@ -202,12 +205,11 @@ fn tell_breaks(keys: &[u64; 16384], marks: &[u8; 49152], residues: usize)
     for r in 0..residues {
         n = visit(keys, marks, &mut last, r, n);
     }
-    say_more(b"break: and ", n);
-    if 0 < n {
-        say(
-            b"break: the print comes in loose parts there: a residue is missing, C-alphas stand more than 5 angstrom apart, or two helices or strands meet\n",
-        );
-    }
+    say_end(
+        b"break: and ",
+        n,
+        b"break: the print comes in loose parts there: a residue is missing, C-alphas stand more than 5 angstrom apart, or two helices or strands meet\n",
+    );
 }
 
 fn is_alone(marks: &[u8; 49152], r: usize) -> bool
@@ -241,12 +243,11 @@ fn tell_alone(keys: &[u64; 16384], marks: &[u8; 49152], residues: usize)
     for r in 0..residues {
         n = visit_alone(keys, marks, r, n);
     }
-    say_more(b"alone: and ", n);
-    if 0 < n {
-        say(
-            b"note: a residue alone has no neighbour with a C-alpha within 5 angstrom, so that no tube holds it: it is not in the print\n",
-        );
-    }
+    say_end(
+        b"alone: and ",
+        n,
+        b"note: a residue alone has no neighbour with a C-alpha within 5 angstrom, so that no tube holds it: it is not in the print\n",
+    );
 }
 
 // What a person is told of a file's mesh whose tube records these are.

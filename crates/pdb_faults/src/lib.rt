@@ -9,53 +9,54 @@ ghost use Rattle.pdb_survey.specs.Lines.{own_faults, ahead};
 ghost use Rattle.pdb_survey.specs.Tables.{Known};
 ghost use Rattle.pdb_wanted.specs.Wanted.{Wanted};
 
+use appearance::Lookup;
 use pdb_file::Fault;
 use pdb_records::Record;
 
-// Whether the file has an atom of this residue. One that is not in the index is absent, unless there are more: then the file is searched.
-fn is_present(
-    s: &[u8],
-    keys: &[u64; 16384],
-    links: &[usize; 32768],
-    bits: &[u8; 16384],
+// What a file's segments are judged by: an index of residues, and for each a bit that is 1 where the file has it. `more`: the file has residues that are
+// not in the index.
+#[derive(Clone, Copy)]
+struct Residues<'a> {
+    text: &'a [u8],
+    keys: &'a [u64; 16384],
+    links: &'a [usize; 32768],
     n: usize,
+    bits: &'a [u8; 16384],
     more: bool,
-    name: u64,
-) -> bool
-    requires { (Wanted keys.now links.now bits.now n (names (atoms_of s.now))) × (more ≡ false → Keyed keys.now n (names (atoms_of s.now))) }
-    ensures { result ≡ is_some (first_atom name (atoms_of s.now)) }
-{
-    match appearance::find(keys, links, n, name) {
-        Some(i) => bits[i] == 1,
-        None => more && pdb_file::is_present(s, name),
-    }
+    ghost wanted: { Wanted keys.now links.now bits.now n (names (atoms_of text.now)) },
+    ghost all: { more ≡ false → Keyed keys.now n (names (atoms_of text.now)) },
 }
 
-fn fault_of(
-    s: &[u8],
-    keys: &[u64; 16384],
-    links: &[usize; 32768],
-    bits: &[u8; 16384],
-    n: usize,
-    more: bool,
-    line: usize,
-    r: Record,
-) -> Option<Fault>
-    requires { (Wanted keys.now links.now bits.now n (names (atoms_of s.now))) × (more ≡ false → Keyed keys.now n (names (atoms_of s.now))) }
-    ensures { result ≡ fault_of (atoms_of s.now) line r }
-{
-    match r {
-        Record::Short => Some(Fault::LineShort(line)),
-        Record::BadNumber => Some(Fault::LineWrong(line)),
-        Record::ASegment(g) => {
-            if is_present(s, keys, links, bits, n, more, g.start)
-                && is_present(s, keys, links, bits, n, more, g.end)
-            {
-                return None;
-            }
-            Some(Fault::NoResidue(line))
+impl<'a> Residues<'a> {
+    // Whether the file has an atom of this residue. One that is not in the index is absent, unless there are more: then the file is searched.
+    fn has(&self, name: u64) -> bool
+        ensures { result ≡ is_some (first_atom name (atoms_of self.now.text.now)) }
+    {
+        let index = Lookup {
+            keys: self.keys,
+            links: self.links,
+            n: self.n,
+        };
+        match index.find(name) {
+            Some(i) => self.bits[i] == 1,
+            None => self.more && pdb_file::is_present(self.text, name),
         }
-        _ => None,
+    }
+
+    fn fault_of(&self, line: usize, r: Record) -> Option<Fault>
+        ensures { result ≡ fault_of (atoms_of self.now.text.now) line r }
+    {
+        match r {
+            Record::Short => Some(Fault::LineShort(line)),
+            Record::BadNumber => Some(Fault::LineWrong(line)),
+            Record::ASegment(g) => {
+                if self.has(g.start) && self.has(g.end) {
+                    return None;
+                }
+                Some(Fault::NoResidue(line))
+            }
+            _ => None,
+        }
     }
 }
 
@@ -85,7 +86,15 @@ pub fn find_fault(
             return own;
         };
         n = pdb_wanted::refresh(here, keys, links, &mut bits, n, more, r);
-        let f = fault_of(s, keys, links, &bits, n, more, line, r);
+        let residues = Residues {
+            text: s,
+            keys: &*keys,
+            links: &*links,
+            n,
+            bits: &bits,
+            more,
+        };
+        let f = residues.fault_of(line, r);
         if f.is_some() {
             return f;
         }

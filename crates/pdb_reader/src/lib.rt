@@ -9,8 +9,10 @@ ghost use Rattle.pdb_job.specs.Structure.{Structure, structure_of};
 ghost use Rattle.pdb_reader.specs.Call.{past_limits, refusal_of, read_checks, read_by, Reads};
 ghost use Rattle.pdb_job.specs.Counted.{Counted};
 
+use appearance::Lookup;
 use job::Refusal;
 use pdb_file::Fault;
+use pdb_job::FileTables;
 use pdb_survey::FileCounts;
 
 fn is_past_limits(c: FileCounts, segments: usize) -> bool
@@ -30,12 +32,12 @@ fn is_past_limits(c: FileCounts, segments: usize) -> bool
 }
 
 // Checks 15 and 16 of a file with no fault, and its job.
-fn read_right(
-    s: &[u8],
-    keys: &[u64; 16384],
-    links: &[usize; 32768],
-    ends: &[u64; 32768],
-    marks: &[usize; 256],
+fn read_right<'a>(
+    s: &'a [u8],
+    keys: &'a [u64; 16384],
+    links: &'a [usize; 32768],
+    ends: &'a [u64; 32768],
+    marks: &'a [usize; 256],
     c: FileCounts,
     segments: usize,
     out: &mut [u8],
@@ -51,7 +53,18 @@ fn read_right(
     if out.len() < size {
         return Err(Refusal::NoJobRoom(size));
     }
-    pdb_job::write_job(s, keys, links, ends, marks, c, segments, out);
+    let index = Lookup {
+        keys,
+        links,
+        n: c.residues,
+    };
+    let tables = FileTables {
+        text: s,
+        index,
+        ends,
+        marks,
+    };
+    pdb_job::write_job(&tables, c, segments, out);
     Ok(size)
 }
 

@@ -7,6 +7,7 @@ ghost use Rattle.pdb_file.specs.Reading.{atoms_in};
 ghost use Rattle.pdb_survey.specs.Lines.{own_fault, segments_counted};
 ghost use Rattle.pdb_survey.specs.Tables.{Marks, Noted, Surveyed};
 
+use appearance::Lookup;
 use pdb_file::Fault;
 use pdb_records::{AtomLine, Record};
 
@@ -59,7 +60,12 @@ fn take_in(
     }
     let n = c.residues;
     let atoms = c.atoms + 1;
-    let found = appearance::find(keys, links, n, a.name);
+    let index = Lookup {
+        keys: &*keys,
+        links: &*links,
+        n,
+    };
+    let found = index.find(a.name);
     let chains = mark(marks, a.chain, c.chains);
     if let Some(i) = found {
         ends[16384 + i] = a.serial;

@@ -7,6 +7,7 @@ ghost use Rattle.pdb_records.specs.declared.AtomLine.{AtomLine};
 ghost use Rattle.pdb_file.specs.Reading.{atoms_in, atoms_of, names};
 ghost use Rattle.pdb_wanted.specs.Wanted.{Wanted};
 
+use appearance::Lookup;
 use pdb_file::Walk;
 use pdb_records::Record;
 
@@ -32,36 +33,22 @@ fn want_ends(keys: &mut [u64; 16384], links: &mut [usize; 32768], n: usize, r: R
 }
 
 // The bit of this name is 1 from now on, if the name is wanted.
-fn note_name(
-    keys: &[u64; 16384],
-    links: &[usize; 32768],
-    n: usize,
-    bits: &mut [u8; 16384],
-    name: u64,
-)
-    requires { Index keys.now links.now n }
-    ensures { (l : List ℕ) → Wanted keys.now links.now bits.old n l
-        → Wanted keys.now links.now bits.new n (l ++ (name ∷ [])) }
+fn note_name<'a>(index: &Lookup<'a>, bits: &mut [u8; 16384], name: u64)
+    ensures { (l : List ℕ) → Wanted index.now.keys.now index.now.links.now bits.old index.now.n l
+        → Wanted index.now.keys.now index.now.links.now bits.new index.now.n (l ++ (name ∷ [])) }
 {
-    if let Some(i) = appearance::find(keys, links, n, name) {
+    if let Some(i) = index.find(name) {
         bits[i] = 1;
     }
 }
 
 // The bits with the atom of this line, if it gives one.
-fn note_atom(
-    keys: &[u64; 16384],
-    links: &[usize; 32768],
-    n: usize,
-    bits: &mut [u8; 16384],
-    r: Record,
-)
-    requires { Index keys.now links.now n }
-    ensures { (l : List AtomLine) → Wanted keys.now links.now bits.old n (names l)
-        → Wanted keys.now links.now bits.new n (names (l ++ atoms_in r)) }
+fn note_atom<'a>(index: &Lookup<'a>, bits: &mut [u8; 16384], r: Record)
+    ensures { (l : List AtomLine) → Wanted index.now.keys.now index.now.links.now bits.old index.now.n (names l)
+        → Wanted index.now.keys.now index.now.links.now bits.new index.now.n (names (l ++ atoms_in r)) }
 {
     if let Record::AnAtom(a) = r {
-        note_name(keys, links, n, bits, a.name);
+        note_name(index, bits, a.name);
     }
 }
 
@@ -81,40 +68,28 @@ fn gather<'a>(from: Walk<'a>, keys: &mut [u64; 16384], links: &mut [usize; 32768
 }
 
 // Which of the names are those of the file's residues, in one walk over the file.
-fn note_atoms(
-    s: &[u8],
-    keys: &[u64; 16384],
-    links: &[usize; 32768],
-    n: usize,
-    bits: &mut [u8; 16384],
-)
-    requires { Wanted keys.now links.now bits.old n [] }
-    ensures { Wanted keys.now links.now bits.new n (names (atoms_of s.now)) }
+fn note_atoms<'a>(s: &[u8], index: &Lookup<'a>, bits: &mut [u8; 16384])
+    requires { Wanted index.now.keys.now index.now.links.now bits.old index.now.n [] }
+    ensures { Wanted index.now.keys.now index.now.links.now bits.new index.now.n (names (atoms_of s.now)) }
 {
     for r in pdb_file::records(s) {
-        note_atom(keys, links, n, bits, r);
+        note_atom(index, bits, r);
     }
 }
 
 // Both ends of this line's segment, if it gives one, are in the index.
-fn are_in(keys: &[u64; 16384], links: &[usize; 32768], n: usize, r: Record) -> bool
-    requires { Index keys.now links.now n }
-{
+fn are_in<'a>(index: &Lookup<'a>, r: Record) -> bool {
     match r {
-        Record::ASegment(g) => {
-            appearance::find(keys, links, n, g.start).is_some()
-                && appearance::find(keys, links, n, g.end).is_some()
-        }
+        Record::ASegment(g) => index.find(g.start).is_some() && index.find(g.end).is_some(),
         _ => true,
     }
 }
 
 // The index serves for this line. One that holds all residues of the file, where there are no more, serves for each.
-fn serves(keys: &[u64; 16384], links: &[usize; 32768], n: usize, more: bool, r: Record) -> bool
-    requires { Index keys.now links.now n }
+fn serves<'a>(index: &Lookup<'a>, more: bool, r: Record) -> bool
     ensures { more ≡ false → result ≡ true }
 {
-    !more || are_in(keys, links, n, r)
+    !more || are_in(index, r)
 }
 
 // An index that serves for the line `r`, where `from` is: the one at hand, or one of the names from this line on.
@@ -131,12 +106,22 @@ pub fn refresh<'a>(
     ensures { (Wanted keys.new links.new bits.new result (names (atoms_of from.entry.text.now)))
         × (more ≡ false → (keys.new ≡ keys.old) × (links.new ≡ links.old) × (result ≡ n)) }
 {
-    if serves(keys, links, n, more, r) {
+    let at_hand = Lookup {
+        keys: &*keys,
+        links: &*links,
+        n,
+    };
+    if serves(&at_hand, more, r) {
         return n;
     }
     forget(links);
     let m = gather(from, keys, links);
     *bits = [0u8; 16384];
-    note_atoms(from.text, keys, links, m, bits);
+    let index = Lookup {
+        keys: &*keys,
+        links: &*links,
+        n: m,
+    };
+    note_atoms(from.text, &index, bits);
     m
 }

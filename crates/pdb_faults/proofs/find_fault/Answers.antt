@@ -28,9 +28,12 @@ returns-in_default c = let inv = c.loop-left.invariant in
 pub refresh-n-requires : goal.refresh-n-requires
 refresh-n-requires c = let inv = c.loop-left.invariant in rw inv.text inv.wanted
 
-pub fault_of-f-requires : goal.fault_of-f-requires
-fault_of-f-requires c = let inv = c.loop-left.invariant in
-    (rw inv.text at c.refresh-n.ensures.0, λ m. let E = c.refresh-n.ensures.1 m in let I = inv.same m in keyed_same _ _ _ _ _ (c.requires.0.all m) (E.0 ∙ I.0) (E.2 ∙ I.2))
+pub invariant_of-residues : goal.invariant_of-residues
+invariant_of-residues c = let inv = c.loop-left.invariant in
+    record {
+      wanted = rw inv.text at c.refresh-n.ensures.0;
+      all = λ m. let E = c.refresh-n.ensures.1 m in let I = inv.same m in keyed_same _ _ _ _ _ (c.requires.0.all m) (E.0 ∙ I.0) (E.2 ∙ I.2);
+    }
 
 pub overflow_sub-left : goal.overflow_sub-left
 overflow_sub-left c =

@@ -1,7 +1,7 @@
 use native.Mathlib.Omega.{arith}
 use mathlib.Core.Path.{refl, sym, ◌∙◌}
 use Rattle.lists.proofs.Puts.{kept}
-use Rattle.pdb_job.proofs.Counts.{not_more, within_limits, size_is}
+use Rattle.pdb_job.proofs.Counts.{not_more, within_limits, size_is, marks_are}
 use Rattle.pdb_reader.proofs.Answers.{limited, refuse_limits, refuse_room, accept}
 use borrow.Author.Rules.{rules}
 use Rattle.pdb_reader.proofs.read_right.Goals as goal
@@ -56,12 +56,20 @@ returns-then-out-size c =
     let m = not_more _ _ _ q (limited _ p) in
     (refuse_room _ c.args.out.now p _ (size_is _ _ _ q m) c.if-out-size.true, refl)
 
+pub invariant_of-tables : goal.invariant_of-tables
+invariant_of-tables c =
+    let q = c.requires.1 in
+    let p = sym (c.is_past_limits.ensures _ q) ∙ c.if-is_past_limits.false in
+    let m = not_more _ _ _ q (limited _ p) in
+    let W = c.requires.0.whole m in
+    record { residues = W.residues; chains = marks_are _ _ _ q m _ W.chains }
+
 pub write_job-requires : goal.write_job-requires
 write_job-requires c =
-    let pre = c.requires in
-    let p = sym (c.is_past_limits.ensures _ pre.1) ∙ c.if-is_past_limits.false in
-    let m = not_more _ _ _ pre.1 (limited _ p) in
-    let z = size_is _ _ _ pre.1 m in record { noted = pre.0; counted = (pre.1, limited _ p, omega (arith, c.if-out-size.false)) }
+    let q = c.requires.1 in
+    let p = sym (c.is_past_limits.ensures _ q) ∙ c.if-is_past_limits.false in
+    let m = not_more _ _ _ q (limited _ p) in
+    let z = size_is _ _ _ q m in (q, limited _ p, omega (arith, c.if-out-size.false))
 
 pub shape_of-out : goal.shape_of-out
 shape_of-out c = kept _ _ _ c.write_job.ensures

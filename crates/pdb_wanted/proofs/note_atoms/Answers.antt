@@ -5,9 +5,6 @@ use Rattle.pdb_wanted.proofs.note_atoms.Goals as goal
 pub loop-r-init : goal.loop-r-init
 loop-r-init c = (tt, tt, noting_start _ _ _ _ _ _ (begun _ _ _ c.records-r-items.ensures c.into_iter-r-iterator.ensures.into_iter_gives) c.requires)
 
-pub note_atom-requires : goal.note_atom-requires
-note_atom-requires c = c.loop-r.invariant.2.wanted.index
-
 pub loop-r-preserved : goal.loop-r-preserved
 loop-r-preserved c =
     let inv = c.loop-r.invariant.2 in
