@@ -14,7 +14,6 @@ use Rattle.floats.specs.Floats.{narrowed}
 use Rattle.lists.proofs.Bools.{or_left, or_rest}
 use Rattle.lists.proofs.Searches.{first_le, last_le}
 use Rattle.vectors.specs.declared.Vec3.{Vec3}
-use Rattle.vectors.specs.declared.Option Vec3.TheVariants.{None}
 use Rattle.vectors.specs.Vec.{vsub, vec_at, direction_of}
 use Rattle.vectors.proofs.Flat.{floats_at}
 use Rattle.sizes.proofs.Most.{Real, Real3, vmore, round_real, self_nowhere}

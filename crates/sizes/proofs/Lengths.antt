@@ -19,7 +19,6 @@ use Rattle.floats.proofs.Squares.{sq_lt}
 use Rattle.floats.specs.Nearest.{IsNearest}
 use Rattle.floats.proofs.NearestRoot.{root_is_nearest}
 use Rattle.vectors.specs.declared.Vec3.{Vec3}
-use Rattle.vectors.specs.declared.Option Vec3.TheVariants.{Some}
 use Rattle.vectors.specs.Vec.{vec, vscale, vdot, vlength, vzero, lit, one, f/, f*, f+, direction_of}
 use Rattle.sizes.proofs.Least.{zero_f, zero_is, Least, least_lit, Most, one_is, mul_least, over_least, faint, not_faint, faint_square}
 

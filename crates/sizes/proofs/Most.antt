@@ -19,7 +19,6 @@ use lib.Ieee.Positive.{first_pos}
 use Rattle.floats.specs.Floats.{root}
 use Rattle.floats.proofs.Closest.{closest_down}
 use Rattle.vectors.specs.declared.Vec3.{Vec3}
-use Rattle.vectors.specs.declared.Option Vec3.TheVariants.{None}
 use Rattle.vectors.proofs.Directions.{nowhere}
 use Rattle.vectors.specs.Vec.{direction_of, vadd, vsub, vscale, vdot, vlength, lit, one, f+, f*, f/}
 use Rattle.sizes.proofs.Least.{split, Least, NotZero, one_f, one_is, zero_is, value_least, faint, sub_self}
