@@ -41,7 +41,8 @@ impl From<Error> for Unfilled {
     }
 }
 
-// Why a program has not done what it was asked; which was said. Its status is 1, or 2 where it tells a read or a write that failed apart, as `ribbon` does.
+// A program has not done what it was asked: why was said, if it was worth a word. Told: its status is 1. Failed: it is 2, by which `ribbon` tells what could not be read,
+// written or understood from a file that is refused.
 #[derive(Clone, Copy)]
 pub enum Undone {
     Told,
@@ -66,6 +67,7 @@ pub fn read_all(from: &Source, buf: &mut [u8]) -> Result<usize, Error>
     ensures { IfOk result (λ n. n ≤ length buf.new) }
 {
     let mut done = 0;
+    // no range: each read says how far it came
     while done < buf.len() {
         let n = read_some(from, &mut buf[done..])?;
         if n == 0 {

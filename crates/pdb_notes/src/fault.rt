@@ -11,6 +11,7 @@ fn place_of(s: &[u8], n: usize) -> usize
 {
     let mut at = 0;
     let mut line = 1;
+    // no range: a line says where the next one begins
     while at < s.len() && line < n {
         at = pdb_lines::line_at(s, at).next;
         line += 1;

@@ -57,6 +57,7 @@ fn gather(
     let mut at = 0;
     let mut seen = false;
     let mut m = n;
+    // no range: each line that is found says where the search goes on
     loop {
         let Some(p) = next_line(s, at, seen, w) else {
             return m;

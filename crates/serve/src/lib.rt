@@ -55,6 +55,7 @@ fn pass_over(from: &Source, n: usize, bytes: &mut [u8]) -> Result<(), Unfilled>
     requires { 0 < length bytes.old }
 {
     let mut left = n;
+    // no range: by as many bytes as there is room for
     while bytes.len() < left {
         files::fill(from, bytes)?;
         left -= bytes.len();

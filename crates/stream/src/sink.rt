@@ -44,7 +44,9 @@ fn hand_on(mode: Mode, bytes: &[u8]) -> Result<(), Error> {
 }
 
 impl Sink {
-    pub fn new(mode: Mode) -> Sink {
+    pub fn new(mode: Mode) -> Sink
+        ensures { result.at ≡ 0 }
+    {
         Sink {
             mode,
             block: io::large_buffer(),
@@ -56,6 +58,7 @@ impl Sink {
     // Hands on the first n bytes of the block.
     fn flush(&mut self, n: usize)
         requires { n ≤ 65536 }
+        ensures { self.new.at ≡ 0 }
     {
         if let Err(why) = hand_on(self.mode, &self.block[..n]) {
             self.sent = Err(why);
@@ -76,6 +79,7 @@ impl Sink {
 
     pub fn send<T: Wire>(&mut self, items: &[T]) {
         let mut rest = items;
+        // no range: as many at a time as the block has room for
         while !rest.is_empty() {
             let at = self.at;
             let n = ((65536 - at) / T::SIZE).min(rest.len());
@@ -87,7 +91,9 @@ impl Sink {
     }
 
     // Ends an answer: hands on what waits, and says whether every block went out.
-    pub fn finish(&mut self) -> Result<(), Error> {
+    pub fn finish(&mut self) -> Result<(), Error>
+        ensures { self.new.at ≡ 0 }
+    {
         self.flush(self.at);
         self.sent
     }
