@@ -18,7 +18,7 @@ use Rattle.pdb_file.specs.Reading.{stops, saw, reading, rest, atoms, atoms_in, s
 use Rattle.std.specs.Prelude.{Option, Some, None}
 use Rattle.std.specs.Option.{option_or}
 use Rattle.pdb_file.specs.Faults.{found_in, first_atom}
-use Rattle.pdb_file.specs.Steps.{Onward, Begins}
+use Rattle.pdb_file.specs.Steps.{left, Onward, Stepped, Begins}
 use Rattle.pdb_file.specs.declared.walk.Walk.{Walk}
 
 pub rest_over : (s : List ℕ) (at : ℕ) (seen : Bool) → length s ≤ at → rest s at seen ≡ []
@@ -61,6 +61,13 @@ module _ (n : ℕ) (all rs rs' : List Record) where
 
   pub first_on : (r : Record) → first_atom n (atoms all) ≡ first_atom n (atoms rs) → rs ≡ r ∷ rs' → found_in n r ≡ None → first_atom n (atoms all) ≡ first_atom n (atoms rs')
   first_on r e z f = e ∙ ap (λ (l : List Record). first_atom n (atoms l)) z ∙ first_cons n r rs' ∙ ap (λ (g : Option ℕ). option_or g (first_atom n (atoms rs'))) f
+
+-- ---- what a step told
+pub stepped_done : (w : Walk) (n : Option Record) (w' : Walk) → Stepped w n w' → n ≡ None → left w ≡ []
+stepped_done w n w' h e = subst (λ (m : Option Record). Stepped w m w') e h
+
+pub stepped_got : (w : Walk) (n : Option Record) (w' : Walk) (r : Record) → Stepped w n w' → n ≡ Some r → Onward w r w'
+stepped_got w n w' r h e = subst (λ (m : Option Record). Stepped w m w') e h
 
 -- ---- the iterator of a loop is the walk that it was given
 pub begun : (s : List ℕ) (w v : Walk) → Begins s w → v ≡ w → Begins s v

@@ -6,6 +6,7 @@ use mathlib.Core.List.{List, [], ◌∷◌, map}
 use native.Mathlib.Omega.{arith}
 use native.Mathlib.Nat.{zero-add}
 use lib.ListN.{length, take, drop, drop_of_length-le}
+use Rattle.std.specs.Prelude.{Option, Some, None}
 use Rattle.pdb_lines.specs.Lines.{lines}
 use Rattle.pdb_lines.specs.Post.{Cut}
 use Rattle.pdb_records.specs.Records.{line_kind, of_kind}
@@ -13,7 +14,7 @@ use Rattle.pdb_records.specs.declared.Record.{Record}
 use Rattle.pdb_records.specs.declared.Kind.{Kind}
 use Rattle.pdb_file.specs.Reading.{stops, saw, reading}
 use Rattle.pdb_search.specs.Kinds.{passes, everywhere, taken, chosen, lines_from, lines_of}
-use Rattle.pdb_search.specs.Post.{Onward}
+use Rattle.pdb_search.specs.Post.{Onward, Found}
 use Rattle.pdb_search.specs.declared.What.{What}
 use Rattle.pdb_search.specs.declared.Spot.{Spot}
 
@@ -89,6 +90,13 @@ module _ (w : What) (s : List ℕ) (at₀ : ℕ) (seen₀ : Bool) (at to next : 
 
       pub search_on : p ≡ false → lines_from w s at₀ seen₀ ≡ lines_from w s next v
       search_on y = q ∙ from_on w s at to next seen h k e (sym eo ∙ z) v ev ∙ rw (sym ep ∙ y)
+
+-- what the search answered
+pub found_done : (w : What) (s : List ℕ) (at : ℕ) (seen : Bool) (r : Option Spot) → Found w s at seen r → r ≡ None → lines_from w s at seen ≡ []
+found_done w s at seen r F e = subst (Found w s at seen) e F
+
+pub found_got : (w : What) (s : List ℕ) (at : ℕ) (seen : Bool) (r : Option Spot) (p : Spot) → Found w s at seen r → r ≡ Some p → Onward w s at seen p
+found_got w s at seen r p F e = subst (Found w s at seen) e F
 
 -- a count of lines: n are behind
 pub record Counting (w : What) (s : List ℕ) (at : ℕ) (seen : Bool) (n : ℕ) : Type 0 where

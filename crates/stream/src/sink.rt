@@ -13,13 +13,13 @@ pub enum Mode {
 
 // The first `at` bytes of the block wait to be handed on, and there is room for one more word. `sent` says that every block so far was written whole, or was as
 // recorded, or why the last that was not was not.
-#[derive(Drop)]
+#[derive(Clone, Copy)]
 pub struct Sink {
-    mode: Mode,
+    pub mode: Mode,
     block: [u8; 65536],
-    at: usize,
-    sent: Result<(), Error>,
-    ghost ready: { at + 4 ≤ 65536 },
+    pub at: usize,
+    pub sent: Result<(), Error>,
+    pub ghost ready: { at + 4 ≤ 65536 },
 }
 
 // Whether the bytes are those that come next in a file.
