@@ -53,8 +53,8 @@ fn blame_atom(l: &[u8]) {
     }
 }
 
-// A HELIX or SHEET line: which of its two residue numbers is not right. The first one's columns depend on its kind, and so do its words. A message goes out in one
-// write, so that what others write there does not come between its words.
+// A HELIX or SHEET line: which of its two residue numbers is not right. The first one's columns depend on its kind, and so do its words. They are
+// given whole, and go out in one write, so that nothing that others write comes between.
 fn blame_segment(l: &[u8], from: usize, first: &[u8])
     requires { from ≤ 34 }
 {
