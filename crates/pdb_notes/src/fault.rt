@@ -35,9 +35,7 @@ fn blame_atom(l: &[u8]) {
         return;
     }
     if pdb_fields::whole_in(&l[22..26]).is_none() {
-        say(
-            b"its columns 23 to 26 are no residue number: a minus or none, and digits, between blanks\n",
-        );
+        say_no_number(b"its columns 23 to 26");
         return;
     }
     if pdb_fields::thousandths_in(&l[30..38]).is_none() {
@@ -53,37 +51,34 @@ fn blame_atom(l: &[u8]) {
     }
 }
 
-// A HELIX or SHEET line: which of its two residue numbers is not right. The first one's columns depend on its kind, and so do its words. They are
-// given whole, and go out in one write, so that nothing that others write comes between.
-fn blame_segment(l: &[u8], from: usize, first: &[u8])
+// The words are put together before they are said: they go out in one write, so that nothing that others write comes between.
+fn say_no_number(columns: &[u8; 20]) {
+    let mut text =
+        *b"its columns 00 to 00 are no residue number: a minus or none, and digits, between blanks\n";
+    text[..20].copy_from_slice(columns);
+    say(&text);
+}
+
+// A HELIX or SHEET line: which of its two residue numbers is not right. The first one's columns depend on its kind, and are named by `columns`.
+fn blame_segment(l: &[u8], from: usize, columns: &[u8; 20])
     requires { from ≤ 34 }
 {
     if l.len() < 38 {
         return;
     }
     if pdb_fields::whole_in(&l[from..from + 4]).is_none() {
-        say(first);
-        return;
+        say_no_number(columns);
+    } else {
+        say_no_number(b"its columns 34 to 37");
     }
-    say(
-        b"its columns 34 to 37 are no residue number: a minus or none, and digits, between blanks\n",
-    );
 }
 
 fn blame_number(l: &[u8]) {
     let k = pdb_records::kind_of(l);
     match k {
         Kind::Atom => blame_atom(l),
-        Kind::Helix => blame_segment(
-            l,
-            21,
-            b"its columns 22 to 25 are no residue number: a minus or none, and digits, between blanks\n",
-        ),
-        Kind::Sheet => blame_segment(
-            l,
-            22,
-            b"its columns 23 to 26 are no residue number: a minus or none, and digits, between blanks\n",
-        ),
+        Kind::Helix => blame_segment(l, 21, b"its columns 22 to 25"),
+        Kind::Sheet => blame_segment(l, 22, b"its columns 23 to 26"),
         _ => {}
     }
 }
